@@ -1,0 +1,34 @@
+-- A number, byte by byte (RFC 8259, section 6): what may stand next, part by part.
+use Prim.Native.Nat.{ℕ}
+use mathlib.Core.List.{List, [], _∷_}
+use mathlib.Core.Bool.{Bool, true, false, cond}
+use Rattle.json.specs.Rows.{Rows, else, below, look}
+use Rattle.json.specs.declared.number.InNumber.{InNumber}
+use Rattle.json.specs.declared.number.InNumber.the-variants.{Start, Minus, Zero, Whole, Point, Fraction, Mark, Sign, Power}
+use Rattle.json.specs.declared.number.DigitStep.{DigitStep}
+use Rattle.json.specs.declared.number.DigitStep.the-variants.{Onward, Over}
+
+-- 43 is +, 45 -, 46 the point, 48 to 57 the digits, 69 and 101 E and e.
+unfoldable pub onward : InNumber → ℕ → DigitStep
+unfolding look
+onward Start b = look b (below 45 Over (below 46 (Onward Minus) (below 48 Over (below 49 (Onward Zero) (below 58 (Onward Whole) (else Over))))))
+onward Minus b = look b (below 48 Over (below 49 (Onward Zero) (below 58 (Onward Whole) (else Over))))
+onward Zero b = look b (below 46 Over (below 47 (Onward Point) (below 69 Over (below 70 (Onward Mark) (below 101 Over (below 102 (Onward Mark) (else Over)))))))
+onward Whole b = look b (below 46 Over (below 47 (Onward Point) (below 48 Over (below 58 (Onward Whole) (below 69 Over (below 70 (Onward Mark) (below 101 Over (below 102 (Onward Mark) (else Over)))))))))
+onward Point b = look b (below 48 Over (below 58 (Onward Fraction) (else Over)))
+onward Fraction b = look b (below 48 Over (below 58 (Onward Fraction) (below 69 Over (below 70 (Onward Mark) (below 101 Over (below 102 (Onward Mark) (else Over)))))))
+onward Mark b = look b (below 43 Over (below 44 (Onward Sign) (below 45 Over (below 46 (Onward Sign) (below 48 Over (below 58 (Onward Power) (else Over)))))))
+onward Sign b = look b (below 48 Over (below 58 (Onward Power) (else Over)))
+onward Power b = look b (below 48 Over (below 58 (Onward Power) (else Over)))
+
+-- Whether a number may end here.
+abbrev pub mayEnd : InNumber → Bool
+mayEnd Start = false
+mayEnd Minus = false
+mayEnd Zero = true
+mayEnd Whole = true
+mayEnd Point = false
+mayEnd Fraction = true
+mayEnd Mark = false
+mayEnd Sign = false
+mayEnd Power = true

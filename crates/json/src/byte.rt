@@ -1,0 +1,167 @@
+// Bytes by their kinds.
+ghost use mathlib.Core.Path.{_≡_};
+ghost use lib.ListN.{drop};
+ghost use Rattle.json.specs.Byte.{isBlank, isHex, isD, is8ToB, isCToF, within as between, blanked};
+ghost use Rattle.json.specs.Part.{wordStop, Stops};
+ghost use Rattle.json.specs.Tree.{Moves};
+
+pub fn is_blank(b: u8) -> bool
+    ensures { λ r. ⌜ r ≡ isBlank b ⌝ }
+{
+    if b < 9 {
+        return false;
+    }
+    if b < 11 {
+        return true;
+    }
+    if b < 13 {
+        return false;
+    }
+    if b < 14 {
+        return true;
+    }
+    if b < 32 {
+        return false;
+    }
+    if b < 33 {
+        return true;
+    }
+    false
+}
+
+// From lo on, and below hi.
+pub fn within(lo: u8, hi: u8, b: u8) -> bool
+    ensures { λ r. ⌜ r ≡ between lo hi b ⌝ }
+{
+    if b < lo {
+        return false;
+    }
+    if b < hi {
+        return true;
+    }
+    false
+}
+
+pub fn is_hex(b: u8) -> bool
+    ensures { λ r. ⌜ r ≡ isHex b ⌝ }
+{
+    if b < 48 {
+        return false;
+    }
+    if b < 58 {
+        return true;
+    }
+    if b < 65 {
+        return false;
+    }
+    if b < 71 {
+        return true;
+    }
+    if b < 97 {
+        return false;
+    }
+    if b < 103 {
+        return true;
+    }
+    false
+}
+
+pub fn is_d(b: u8) -> bool
+    ensures { λ r. ⌜ r ≡ isD b ⌝ }
+{
+    if b < 68 {
+        return false;
+    }
+    if b < 69 {
+        return true;
+    }
+    if b < 100 {
+        return false;
+    }
+    if b < 101 {
+        return true;
+    }
+    false
+}
+
+pub fn is_8_to_b(b: u8) -> bool
+    ensures { λ r. ⌜ r ≡ is8ToB b ⌝ }
+{
+    if b < 56 {
+        return false;
+    }
+    if b < 58 {
+        return true;
+    }
+    if b < 65 {
+        return false;
+    }
+    if b < 67 {
+        return true;
+    }
+    if b < 97 {
+        return false;
+    }
+    if b < 99 {
+        return true;
+    }
+    false
+}
+
+pub fn is_c_to_f(b: u8) -> bool
+    ensures { λ r. ⌜ r ≡ isCToF b ⌝ }
+{
+    if b < 67 {
+        return false;
+    }
+    if b < 71 {
+        return true;
+    }
+    if b < 99 {
+        return false;
+    }
+    if b < 103 {
+        return true;
+    }
+    false
+}
+
+// Where a part of a text ends, or the first byte that breaks it.
+pub enum Part {
+    Past(usize),
+    Torn(usize),
+}
+
+// The first place from `at` on whose byte is no blank.
+pub fn blanks_end(text: &[u8], at: usize) -> usize
+    ensures { λ r. ⌜ Moves blanked (now (text .entry)) at r ⌝ }
+{
+    let mut i = at;
+    while i < text.len() {
+        if is_blank(text[i]) {
+            i += 1;
+        } else {
+            return i;
+        }
+    }
+    i
+}
+
+// The place behind the letters of `word`, which begin at `at`.
+pub fn word_end(text: &[u8], at: usize, word: &[u8]) -> Part
+    ensures { λ r. ⌜ Stops (now (text .entry)) at (wordStop (now (word .entry)) (drop at (now (text .entry)))) r ⌝ }
+{
+    let mut i = at;
+    let mut k = 0;
+    while k < word.len() {
+        if text.len() <= i {
+            return Part::Torn(text.len());
+        }
+        if text[i] != word[k] {
+            return Part::Torn(i);
+        }
+        i += 1;
+        k += 1;
+    }
+    Part::Past(i)
+}
