@@ -2,3 +2,4 @@
 pub mod Moves
 mod Rows
 mod Skips
+mod Counts

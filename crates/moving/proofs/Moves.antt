@@ -15,7 +15,7 @@ byte-here text i h = rw (add-one, drop-cons text i 0)
 
 -- so many bytes and no more are left
 pub bytes-over : (text : List ℕ) (at n : ℕ) → length text - at ≤ n → drop (length text) text ≡ drop n (drop at text)
-bytes-over text at n h = drop-length text ∙ sym (drop-drop n at text ∙ drop-of-length-le text (omega arith))
+bytes-over text at n h = drop-length text ∙ sym (drop-drop n at text ∙ drop-of-length-le text {i = at + n} (omega arith))
 
 -- On the way from `at` the code stands at i, and where g leads from there, f leads from `at`.
 pub record Leads (f g : Place → Place) (text : List ℕ) (at i : ℕ) : Type 0 where
@@ -32,6 +32,10 @@ module _ (f : Place → Place) (text : List ℕ) where
     -- on to j, by a step that is taken before the text's end
     pub lead-on : (h : Place → Place) (j : ℕ) → i < length text → i ≤ j → j ≤ length text → h (drop j text) ≡ g (drop i text) → Leads f h text at j
     lead-on h j n a b e = record { there = e ∙ l .there; ahead = omega arith; inside = λ x. b; outside = λ x. absurd (omega arith) }
+
+    -- on over another function's move
+    pub lead-past : (h m : Place → Place) (j q : ℕ) → i < length text → i ≤ j → j ≤ length text → Moves m text j q → h (m (drop j text)) ≡ g (drop i text) → Leads f h text at q
+    lead-past h m j q n a b v e = lead-on h q n (omega (arith, v .ahead)) (v .inside b) (ap h (v .lands) ∙ e)
 
     pub lead-stop : (r : ℕ) → i < length text → i ≤ r → r ≤ length text → drop r text ≡ g (drop i text) → Moves f text at r
     lead-stop r n a b e = record { lands = e ∙ l .there; ahead = omega arith; inside = λ x. b; outside = λ x. absurd (omega arith) }

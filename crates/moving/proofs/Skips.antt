@@ -10,25 +10,26 @@ use native.Mathlib.Numerals.{add-one}
 use native.Mathlib.Omega.{arith}
 use Rattle.json.specs.Rows.{choose}
 use Rattle.json.specs.Byte.{isNumeric, blanked}
-use Rattle.json.specs.Tree.{Place}
-use Rattle.moving.specs.Moving.{firstByte, overComma, behindString, behindEscape, opens, closes, behindBracket, inQuotes, escaped, behindNumber}
-use Rattle.moving.proofs.Moves.{byte-here}
+use Rattle.json.specs.Tree.{Place, Moves}
+use Rattle.moving.specs.declared.Kind.{Kind}
+use Rattle.moving.specs.Moving.{firstByte, kindOf, behindKind, behindValue, overComma, behindString, behindEscape, opens, closes, behindBracket, inQuotes, escaped, behindNumber}
+use Rattle.moving.proofs.Moves.{byte-here, moves-as}
 
 -- A string inside a list is skipped as it is by itself.
 mutual
-  pub quotes : (s : Place) (n : ℕ) → inQuotes s n ≡ behindBracket (behindString s) n
   unfolding behindString behindBracket
+  pub quotes : (s : Place) (n : ℕ) → inQuotes s n ≡ behindBracket (behindString s) n
   quotes [] n = refl
-  quotes (b ∷ s) n = go (eqb b 34) (eqb b 92)
+  quotes (b ∷ s) n = go (eqb b 34) (eqb b 92) (quotes s n) (escapes s n)
     where
-      go : (t u : Bool) → choose t (λ _. behindBracket s n) (λ _. choose u (λ _. escaped s n) λ _. inQuotes s n)
+      go : (t u : Bool) → inQuotes s n ≡ behindBracket (behindString s) n → escaped s n ≡ behindBracket (behindEscape s) n
+          → choose t (λ _. behindBracket s n) (λ _. choose u (λ _. escaped s n) λ _. inQuotes s n)
           ≡ behindBracket (choose t (λ _. s) λ _. choose u (λ _. behindEscape s) λ _. behindString s) n
-      go true u = refl
-      go false true = escapes s n
-      go false false = quotes s n
+      go true u p q = refl
+      go false true p q = q
+      go false false p q = p
 
   escapes : (s : Place) (n : ℕ) → escaped s n ≡ behindBracket (behindEscape s) n
-  unfolding behindString behindBracket
   escapes [] n = refl
   escapes (b ∷ s) n = quotes s n
 
@@ -63,7 +64,7 @@ module _ (text : List ℕ) (i : ℕ) (h : i < length text) where
     module _ (q : getD text i 0 ≡ 34 → ⊥) where
       pub bracket-opens : opens (getD text i 0) ≡ true → behindBracket (drop (i + 1) text) (n + 1) ≡ behindBracket (drop i text) n
       unfolding behindBracket
-      bracket-opens o = rw (byte-here text i h, ne-eqb _ _ q, o, add-one)
+      bracket-opens o = rw (byte-here text i h, ne-eqb _ _ q, o, add-one n)
 
       module _ (o : opens (getD text i 0) ≡ false) where
         pub bracket-plain : closes (getD text i 0) ≡ false → behindBracket (drop (i + 1) text) n ≡ behindBracket (drop i text) n
@@ -93,3 +94,8 @@ comma s e = rw (eq-eqb _ _ e)
 pub no-comma : (s : Place) → (firstByte s ≡ 44 → ⊥) → s ≡ overComma s
 unfolding blanked
 no-comma s e = rw (ne-eqb _ _ e)
+
+-- A value of a kind is skipped as its kind is.
+pub moves-value : (text : List ℕ) (at r : ℕ) (k : Kind) → kindOf (drop at text) ≡ k → Moves (behindKind k) text at r → Moves behindValue text at r
+unfolding behindValue
+moves-value text at r k e m = moves-as m behindValue (ap (λ x. behindKind x (drop at text)) (sym e))

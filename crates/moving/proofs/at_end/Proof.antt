@@ -19,7 +19,7 @@ closes-requires c κs = search needs
 -- src/lib.rt:252:1
 returns : tie.Need-returns
 unfolding atEnd
-returns c = rw (byte-here _ _ (c .before .before .before .if1 .taken)) (c .closes .ensures)
+returns c = rw (byte-here _ _ (c .before .before .if1 .taken)) (c .closes .ensures)
 
 -- src/lib.rt:252:1
 returns-2 : tie.Need-returns-2

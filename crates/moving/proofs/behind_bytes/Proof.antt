@@ -1,3 +1,4 @@
+use denote.Ref.{now}
 use lib.Seq.{drop-nil, drop-drop}
 use native.Mathlib.Omega.{arith}
 use Rattle.moving.proofs.Moves.{bytes-over, moves-on, moves-over}
@@ -17,7 +18,7 @@ sub-if2 c = search needs
 
 -- src/lib.rt:88:9
 returns-2 : tie.Need-returns-2
-returns-2 c = moves-on _ _ _ _ (search needs) (omega arith) (omega arith) (bytes-over _ _ _ (search needs))
+returns-2 c = moves-on _ _ _ _ (search needs) (omega arith) (omega arith) (bytes-over (now (c .before .before .args .text)) (c .before .before .args .at) (c .before .before .args .n) (c .if2 .taken))
 
 -- src/lib.rt:90:5
 add-result : tie.Need-add-result

@@ -1,3 +1,7 @@
+use mathlib.Core.List.{tail}
+use Rattle.json.specs.Byte.{blanked}
+use Rattle.moving.specs.Moving.{behindString, valueOf}
+use Rattle.moving.proofs.Moves.{then-moves}
 use borrow.Author.Needs.{needs}
 use Rattle.moving.proofs.value_of.Statement.{statement}
 use Rattle.moving.proofs.value_of.Tie as tie
@@ -29,7 +33,15 @@ blanks-end-requires-2 c κs = search needs
 
 -- src/lib.rt:244:1
 returns : tie.Need-returns
-returns c = ?
+unfolding valueOf
+returns c =
+    then-moves
+    (then-moves
+    (then-moves
+    (then-moves (c .before .before .before .before .behind-byte .ensures) behindString (c .before .before .before .behind-string .ensures))
+    blanked (c .before .before .blanks-end .ensures))
+    tail (c .before .behind-byte2 .ensures))
+    blanked (c .blanks-end2 .ensures)
 
 pub value-of-spec : {M : Type 1} → statement M
 value-of-spec =
