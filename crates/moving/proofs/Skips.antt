@@ -1,9 +1,9 @@
--- What one byte more does to a skip.
-use Prim.Native.Nat.{ℕ, zero, suc, _+_, _-_, _≤_, _<_}
-use mathlib.Core.Path.{_≡_, refl, sym, ap, _∙_}
+-- What a byte does to a skip.
+use Prim.Native.Nat.{ℕ, zero, suc, _+_, _-_}
+use mathlib.Core.Path.{_≡_, refl, sym, ap}
 use mathlib.Core.List.{List, [], _∷_, tail}
 use mathlib.Core.Bool.{Bool, true, false}
-use lib.ListN.{length, getD, drop, drop-of-length-le}
+use lib.ListN.{drop}
 use lib.Dec.{eqb}
 use borrow.Author.Tests.{eq-eqb, ne-eqb}
 use native.Mathlib.Numerals.{add-one}
@@ -12,13 +12,40 @@ use Rattle.json.specs.Rows.{choose}
 use Rattle.json.specs.Byte.{isNumeric, blanked}
 use Rattle.json.specs.Tree.{Place, Moves}
 use Rattle.moving.specs.declared.Kind.{Kind}
-use Rattle.moving.specs.Moving.{firstByte, kindOf, behindKind, behindValue, overComma, behindString, behindEscape, opens, closes, behindBracket, inQuotes, escaped, behindNumber}
-use Rattle.moving.proofs.Moves.{byte-here, moves-as}
+use Rattle.moving.specs.Moving.{firstByte, kindOf, behindString, behindEscape, opens, closes, behindBracket, inQuotes, escaped, behindNumber, behindKind, behindValue, overComma}
+use Rattle.moving.proofs.Moves.{moves-as}
+
+-- Strings: the closing quote, a backslash and any other byte.
+module _ (b : ℕ) where
+  pub string-closes : b ≡ 34 → (s : Place) → s ≡ behindString (b ∷ s)
+  unfolding behindString
+  string-closes e s = rw (eq-eqb b 34 e)
+
+  module _ (n : b ≡ 34 → ⊥) where
+    pub string-escapes : b ≡ 92 → (s : Place) → behindEscape s ≡ behindString (b ∷ s)
+    unfolding behindString
+    string-escapes e s = rw (ne-eqb b 34 n, eq-eqb b 92 e)
+
+    pub string-goes : (b ≡ 92 → ⊥) → (s : Place) → behindString s ≡ behindString (b ∷ s)
+    unfolding behindString
+    string-goes m s = rw (ne-eqb b 34 n, ne-eqb b 92 m)
+
+pub string-over : [] ≡ behindString []
+unfolding behindString
+string-over = refl
+
+pub escape-over : behindString [] ≡ behindEscape []
+unfolding behindString
+escape-over = refl
+
+pub escape-goes : (b : ℕ) (s : Place) → behindString s ≡ behindEscape (b ∷ s)
+unfolding behindString
+escape-goes b s = refl
 
 -- A string inside a list is skipped as it is by itself.
 mutual
   unfolding behindString behindBracket
-  pub quotes : (s : Place) (n : ℕ) → inQuotes s n ≡ behindBracket (behindString s) n
+  quotes : (s : Place) (n : ℕ) → inQuotes s n ≡ behindBracket (behindString s) n
   quotes [] n = refl
   quotes (b ∷ s) n = go (eqb b 34) (eqb b 92) (quotes s n) (escapes s n)
     where
@@ -37,56 +64,53 @@ one-less : (s : Place) (n : ℕ) → (n ≡ 0 → ⊥) → behindBracket s (n - 
 one-less s zero z = absurd (z refl)
 one-less s (suc m) z = ap (behindBracket s) (omega arith)
 
-module _ (text : List ℕ) (i : ℕ) (h : i < length text) where
-  pub string-closes : getD text i 0 ≡ 34 → drop (i + 1) text ≡ behindString (drop i text)
-  unfolding behindString
-  string-closes q = rw (byte-here text i h, eq-eqb _ _ q)
+-- Lists and objects, where n more brackets are open.
+module _ (b n : ℕ) where
+  pub bracket-quotes : b ≡ 34 → (s : Place) → behindBracket (behindString s) n ≡ behindBracket (b ∷ s) n
+  unfolding behindBracket
+  bracket-quotes e s = rw (eq-eqb b 34 e) (sym (quotes s n))
 
-  module _ (n : getD text i 0 ≡ 34 → ⊥) where
-    pub string-plain : (getD text i 0 ≡ 92 → ⊥) → behindString (drop (i + 1) text) ≡ behindString (drop i text)
-    unfolding behindString
-    string-plain m = rw (byte-here text i h, ne-eqb _ _ n, ne-eqb _ _ m)
-
-    pub string-escape : getD text i 0 ≡ 92 → i + 1 < length text → behindString (drop (i + 1 + 1) text) ≡ behindString (drop i text)
-    unfolding behindString
-    string-escape e l = rw (byte-here text i h, ne-eqb _ _ n, eq-eqb _ _ e, byte-here text (i + 1) l)
-
-    pub string-torn : getD text i 0 ≡ 92 → length text ≤ i + 1 → behindString (drop (i + 1) text) ≡ behindString (drop i text)
-    unfolding behindString
-    string-torn e l = rw (byte-here text i h, ne-eqb _ _ n, eq-eqb _ _ e, drop-of-length-le text l)
-
-  -- a bracket
-  module _ (n : ℕ) where
-    pub bracket-string : getD text i 0 ≡ 34 → behindBracket (behindString (drop (i + 1) text)) n ≡ behindBracket (drop i text) n
+  module _ (q : b ≡ 34 → ⊥) where
+    pub bracket-opens : opens b ≡ true → (s : Place) → behindBracket s (n + 1) ≡ behindBracket (b ∷ s) n
     unfolding behindBracket
-    bracket-string q = rw (byte-here text i h, eq-eqb _ _ q) (sym (quotes _ n))
+    bracket-opens o s = rw (ne-eqb b 34 q, o, add-one n)
 
-    module _ (q : getD text i 0 ≡ 34 → ⊥) where
-      pub bracket-opens : opens (getD text i 0) ≡ true → behindBracket (drop (i + 1) text) (n + 1) ≡ behindBracket (drop i text) n
+    module _ (o : opens b ≡ false) where
+      pub bracket-closes : closes b ≡ true → n ≡ 0 → (s : Place) → s ≡ behindBracket (b ∷ s) n
       unfolding behindBracket
-      bracket-opens o = rw (byte-here text i h, ne-eqb _ _ q, o, add-one n)
+      bracket-closes l z s = rw (ne-eqb b 34 q, o, l, z)
 
-      module _ (o : opens (getD text i 0) ≡ false) where
-        pub bracket-plain : closes (getD text i 0) ≡ false → behindBracket (drop (i + 1) text) n ≡ behindBracket (drop i text) n
-        unfolding behindBracket
-        bracket-plain l = rw (byte-here text i h, ne-eqb _ _ q, o, l)
+      pub bracket-fewer : closes b ≡ true → (n ≡ 0 → ⊥) → (s : Place) → behindBracket s (n - 1) ≡ behindBracket (b ∷ s) n
+      unfolding behindBracket
+      bracket-fewer l z s = rw (ne-eqb b 34 q, o, l) (one-less s n z)
 
-        pub bracket-closes : closes (getD text i 0) ≡ true → n ≡ 0 → drop (i + 1) text ≡ behindBracket (drop i text) n
-        unfolding behindBracket
-        bracket-closes l z = rw (byte-here text i h, ne-eqb _ _ q, o, l, z)
+      pub bracket-goes : closes b ≡ false → (s : Place) → behindBracket s n ≡ behindBracket (b ∷ s) n
+      unfolding behindBracket
+      bracket-goes l s = rw (ne-eqb b 34 q, o, l)
 
-        pub bracket-fewer : closes (getD text i 0) ≡ true → (n ≡ 0 → ⊥) → behindBracket (drop (i + 1) text) (n - 1) ≡ behindBracket (drop i text) n
-        unfolding behindBracket
-        bracket-fewer l z = rw (byte-here text i h, ne-eqb _ _ q, o, l) (one-less _ n z)
+pub bracket-over : (n : ℕ) → [] ≡ behindBracket [] n
+unfolding behindBracket
+bracket-over n = refl
 
-  pub number-more : isNumeric (getD text i 0) ≡ true → behindNumber (drop (i + 1) text) ≡ behindNumber (drop i text)
-  unfolding behindNumber
-  number-more e = rw (byte-here text i h, e)
+-- Numbers.
+pub number-goes : (b : ℕ) → isNumeric b ≡ true → (s : Place) → behindNumber s ≡ behindNumber (b ∷ s)
+unfolding behindNumber
+number-goes b e s = rw e
 
-  pub number-stops : isNumeric (getD text i 0) ≡ false → drop i text ≡ behindNumber (drop i text)
-  unfolding behindNumber
-  number-stops e = rw (byte-here text i h, e)
+pub number-stops : (b : ℕ) → isNumeric b ≡ false → (s : Place) → b ∷ s ≡ behindNumber (b ∷ s)
+unfolding behindNumber
+number-stops b e s = rw e
 
+pub number-over : [] ≡ behindNumber []
+unfolding behindNumber
+number-over = refl
+
+-- A value is skipped as its kind is.
+pub moves-value : (text : List ℕ) (at r : ℕ) (k : Kind) → kindOf (drop at text) ≡ k → Moves (behindKind k) text at r → Moves behindValue text at r
+unfolding behindValue
+moves-value text at r k e m = moves-as m behindValue (ap (λ x. behindKind x (drop at text)) (sym e))
+
+-- A comma.
 pub comma : (s : Place) → firstByte s ≡ 44 → blanked (tail s) ≡ overComma s
 unfolding blanked
 comma s e = rw (eq-eqb _ _ e)
@@ -94,8 +118,3 @@ comma s e = rw (eq-eqb _ _ e)
 pub no-comma : (s : Place) → (firstByte s ≡ 44 → ⊥) → s ≡ overComma s
 unfolding blanked
 no-comma s e = rw (ne-eqb _ _ e)
-
--- A value of a kind is skipped as its kind is.
-pub moves-value : (text : List ℕ) (at r : ℕ) (k : Kind) → kindOf (drop at text) ≡ k → Moves (behindKind k) text at r → Moves behindValue text at r
-unfolding behindValue
-moves-value text at r k e m = moves-as m behindValue (ap (λ x. behindKind x (drop at text)) (sym e))

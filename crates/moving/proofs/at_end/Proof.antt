@@ -4,24 +4,17 @@ use Rattle.moving.proofs.Moves.{byte-here}
 use borrow.Author.Needs.{needs}
 use Rattle.moving.proofs.at_end.Statement.{statement}
 use Rattle.moving.proofs.at_end.Tie as tie
-use Rattle.moving.proofs.at_end.Reads as reads
-use Rattle.moving.proofs.at_end.Lts as lts
-use Rattle.moving.proofs.closes.Reads as closes-reads
 
--- src/lib.rt:255:33
 shared-slice-read-closes : tie.Need-shared-slice-read-closes
 shared-slice-read-closes c = search needs
 
--- src/lib.rt:255:26
 closes-requires : tie.Need-closes-requires
 closes-requires c κs = search needs
 
--- src/lib.rt:252:1
 returns : tie.Need-returns
 unfolding atEnd
 returns c = rw (byte-here _ _ (c .before .before .if1 .taken)) (c .closes .ensures)
 
--- src/lib.rt:252:1
 returns-2 : tie.Need-returns-2
 unfolding atEnd
 returns-2 c = rw (drop-of-length-le _ (c .if1 .left))

@@ -6,112 +6,79 @@ use Rattle.moving.proofs.Skips.{moves-value}
 use borrow.Author.Needs.{needs}
 use Rattle.moving.proofs.behind_value.Statement.{statement}
 use Rattle.moving.proofs.behind_value.Tie as tie
-use Rattle.moving.proofs.behind_value.Reads as reads
-use Rattle.moving.proofs.behind_value.Lts as lts
-use Rattle.moving.proofs.behind_bracket.Reads as behind-bracket-reads
-use Rattle.moving.proofs.behind_byte.Reads as behind-byte-reads
-use Rattle.moving.proofs.behind_bytes.Reads as behind-bytes-reads
-use Rattle.moving.proofs.behind_number.Reads as behind-number-reads
-use Rattle.moving.proofs.behind_string.Reads as behind-string-reads
-use Rattle.moving.proofs.kind_at.Reads as kind-at-reads
 
--- src/lib.rt:209:11
 kind-at-requires : tie.Need-kind-at-requires
 kind-at-requires c κs = search needs
 
--- src/lib.rt:210:46
 enum-told : tie.Need-enum-told
 enum-told c = search needs
 
--- src/lib.rt:210:46
 behind-byte-requires : tie.Need-behind-byte-requires
 behind-byte-requires c κs = search needs
 
--- src/lib.rt:210:25
 behind-bracket-requires : tie.Need-behind-bracket-requires
 behind-bracket-requires c κs = search needs
 
--- src/lib.rt:211:45
 enum-told-2 : tie.Need-enum-told-2
 enum-told-2 c = search needs
 
--- src/lib.rt:211:45
 behind-byte-requires-2 : tie.Need-behind-byte-requires-2
 behind-byte-requires-2 c κs = search needs
 
--- src/lib.rt:211:24
 behind-bracket-requires-2 : tie.Need-behind-bracket-requires-2
 behind-bracket-requires-2 c κs = search needs
 
--- src/lib.rt:212:43
 enum-told-3 : tie.Need-enum-told-3
 enum-told-3 c = search needs
 
--- src/lib.rt:212:43
 behind-byte-requires-3 : tie.Need-behind-byte-requires-3
 behind-byte-requires-3 c κs = search needs
 
--- src/lib.rt:212:23
 behind-string-requires : tie.Need-behind-string-requires
 behind-string-requires c κs = search needs
 
--- src/lib.rt:213:25
 enum-told-4 : tie.Need-enum-told-4
 enum-told-4 c = search needs
 
--- src/lib.rt:213:25
 behind-number-requires : tie.Need-behind-number-requires
 behind-number-requires c κs = search needs
 
--- src/lib.rt:214:23
 enum-told-5 : tie.Need-enum-told-5
 enum-told-5 c = search needs
 
--- src/lib.rt:214:23
 behind-bytes-requires : tie.Need-behind-bytes-requires
 behind-bytes-requires c κs = search needs
 
--- src/lib.rt:215:24
 enum-told-6 : tie.Need-enum-told-6
 enum-told-6 c = search needs
 
--- src/lib.rt:215:24
 behind-bytes-requires-2 : tie.Need-behind-bytes-requires-2
 behind-bytes-requires-2 c κs = search needs
 
--- src/lib.rt:216:23
 enum-told-7 : tie.Need-enum-told-7
 enum-told-7 c = search needs
 
--- src/lib.rt:216:23
 behind-bytes-requires-3 : tie.Need-behind-bytes-requires-3
 behind-bytes-requires-3 c κs = search needs
 
--- src/lib.rt:206:1
 returns : tie.Need-returns
 returns c = moves-value _ _ _ Object (sym (c .before .before .before .before .kind-at .ensures) ∙ c .before .before .enum-told .given .1) (then-moves (c .before .behind-byte .ensures) (λ s. behindBracket s 0) (c .behind-bracket .ensures))
 
--- src/lib.rt:206:1
 returns-2 : tie.Need-returns-2
 returns-2 c = moves-value _ _ _ Array (sym (c .before .before .before .before .kind-at .ensures) ∙ c .before .before .enum-told2 .given .1) (then-moves (c .before .behind-byte2 .ensures) (λ s. behindBracket s 0) (c .behind-bracket2 .ensures))
 
--- src/lib.rt:206:1
 returns-3 : tie.Need-returns-3
 returns-3 c = moves-value _ _ _ Text (sym (c .before .before .before .before .kind-at .ensures) ∙ c .before .before .enum-told3 .given .1) (then-moves (c .before .behind-byte3 .ensures) behindString (c .behind-string .ensures))
 
--- src/lib.rt:206:1
 returns-4 : tie.Need-returns-4
 returns-4 c = moves-value _ _ _ Number (sym (c .before .before .before .kind-at .ensures) ∙ c .before .enum-told4 .given .1) (c .behind-number .ensures)
 
--- src/lib.rt:206:1
 returns-5 : tie.Need-returns-5
 returns-5 c = moves-value _ _ _ True (sym (c .before .before .before .kind-at .ensures) ∙ c .before .enum-told5 .given .1) (c .behind-bytes .ensures)
 
--- src/lib.rt:206:1
 returns-6 : tie.Need-returns-6
 returns-6 c = moves-value _ _ _ False (sym (c .before .before .before .kind-at .ensures) ∙ c .before .enum-told6 .given .1) (c .behind-bytes2 .ensures)
 
--- src/lib.rt:206:1
 returns-7 : tie.Need-returns-7
 returns-7 c = moves-value _ _ _ Null (sym (c .before .before .before .kind-at .ensures) ∙ c .before .enum-told7 .given .1) (c .behind-bytes3 .ensures)
 

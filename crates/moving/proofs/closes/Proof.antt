@@ -2,15 +2,11 @@ use borrow.Author.Tests.{eq-eqb, ne-eqb}
 use Rattle.moving.specs.Moving.{closes}
 use Rattle.moving.proofs.closes.Statement.{statement}
 use Rattle.moving.proofs.closes.Tie as tie
-use Rattle.moving.proofs.closes.Reads as reads
-use Rattle.moving.proofs.closes.Lts as lts
 
--- src/lib.rt:126:9
 returns : tie.Need-returns
 unfolding closes
 returns c = rw (eq-eqb _ _ (c .if1 .taken))
 
--- src/lib.rt:122:1
 returns-2 : tie.Need-returns-2
 unfolding closes
 returns-2 c = rw (ne-eqb _ _ (c .if1 .left))

@@ -2,60 +2,47 @@ use Rattle.json.specs.Byte.{isNumeric}
 use Rattle.moving.proofs.Rows.{rows}
 use Rattle.moving.proofs.is_numeric.Statement.{statement}
 use Rattle.moving.proofs.is_numeric.Tie as tie
-use Rattle.moving.proofs.is_numeric.Reads as reads
-use Rattle.moving.proofs.is_numeric.Lts as lts
 
--- src/lib.rt:158:9
 returns : tie.Need-returns
 unfolding isNumeric
 returns c = search rows depth 20
 
--- src/lib.rt:161:9
 returns-2 : tie.Need-returns-2
 unfolding isNumeric
 returns-2 c = search rows depth 20
 
--- src/lib.rt:164:9
 returns-3 : tie.Need-returns-3
 unfolding isNumeric
 returns-3 c = search rows depth 20
 
--- src/lib.rt:167:9
 returns-4 : tie.Need-returns-4
 unfolding isNumeric
 returns-4 c = search rows depth 20
 
--- src/lib.rt:170:9
 returns-5 : tie.Need-returns-5
 unfolding isNumeric
 returns-5 c = search rows depth 20
 
--- src/lib.rt:173:9
 returns-6 : tie.Need-returns-6
 unfolding isNumeric
 returns-6 c = search rows depth 20
 
--- src/lib.rt:176:9
 returns-7 : tie.Need-returns-7
 unfolding isNumeric
 returns-7 c = search rows depth 20
 
--- src/lib.rt:179:9
 returns-8 : tie.Need-returns-8
 unfolding isNumeric
 returns-8 c = search rows depth 20
 
--- src/lib.rt:182:9
 returns-9 : tie.Need-returns-9
 unfolding isNumeric
 returns-9 c = search rows depth 20
 
--- src/lib.rt:185:9
 returns-10 : tie.Need-returns-10
 unfolding isNumeric
 returns-10 c = search rows depth 20
 
--- src/lib.rt:154:1
 returns-11 : tie.Need-returns-11
 unfolding isNumeric
 returns-11 c = search rows depth 20

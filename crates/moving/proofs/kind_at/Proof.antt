@@ -3,75 +3,58 @@ use Rattle.moving.proofs.Rows.{kinds}
 use borrow.Author.Needs.{needs}
 use Rattle.moving.proofs.kind_at.Statement.{statement}
 use Rattle.moving.proofs.kind_at.Tie as tie
-use Rattle.moving.proofs.kind_at.Reads as reads
-use Rattle.moving.proofs.kind_at.Lts as lts
-use Rattle.moving.proofs.byte_at.Reads as byte-at-reads
 
--- src/lib.rt:33:9
 byte-at-requires : tie.Need-byte-at-requires
 byte-at-requires c κs = search needs
 
--- src/lib.rt:35:9
 returns : tie.Need-returns
 unfolding kindOf
 returns c = search kinds depth 20
 
--- src/lib.rt:38:9
 returns-2 : tie.Need-returns-2
 unfolding kindOf
 returns-2 c = search kinds depth 20
 
--- src/lib.rt:41:9
 returns-3 : tie.Need-returns-3
 unfolding kindOf
 returns-3 c = search kinds depth 20
 
--- src/lib.rt:44:9
 returns-4 : tie.Need-returns-4
 unfolding kindOf
 returns-4 c = search kinds depth 20
 
--- src/lib.rt:47:9
 returns-5 : tie.Need-returns-5
 unfolding kindOf
 returns-5 c = search kinds depth 20
 
--- src/lib.rt:50:9
 returns-6 : tie.Need-returns-6
 unfolding kindOf
 returns-6 c = search kinds depth 20
 
--- src/lib.rt:53:9
 returns-7 : tie.Need-returns-7
 unfolding kindOf
 returns-7 c = search kinds depth 20
 
--- src/lib.rt:56:9
 returns-8 : tie.Need-returns-8
 unfolding kindOf
 returns-8 c = search kinds depth 20
 
--- src/lib.rt:59:9
 returns-9 : tie.Need-returns-9
 unfolding kindOf
 returns-9 c = search kinds depth 20
 
--- src/lib.rt:62:9
 returns-10 : tie.Need-returns-10
 unfolding kindOf
 returns-10 c = search kinds depth 20
 
--- src/lib.rt:65:9
 returns-11 : tie.Need-returns-11
 unfolding kindOf
 returns-11 c = search kinds depth 20
 
--- src/lib.rt:68:9
 returns-12 : tie.Need-returns-12
 unfolding kindOf
 returns-12 c = search kinds depth 20
 
--- src/lib.rt:30:1
 returns-13 : tie.Need-returns-13
 unfolding kindOf
 returns-13 c = search kinds depth 20

@@ -2,15 +2,11 @@ use borrow.Author.Tests.{eq-eqb, ne-eqb}
 use Rattle.moving.specs.Moving.{opens}
 use Rattle.moving.proofs.opens.Statement.{statement}
 use Rattle.moving.proofs.opens.Tie as tie
-use Rattle.moving.proofs.opens.Reads as reads
-use Rattle.moving.proofs.opens.Lts as lts
 
--- src/lib.rt:117:9
 returns : tie.Need-returns
 unfolding opens
 returns c = rw (eq-eqb _ _ (c .if1 .taken))
 
--- src/lib.rt:113:1
 returns-2 : tie.Need-returns-2
 unfolding opens
 returns-2 c = rw (ne-eqb _ _ (c .if1 .left))

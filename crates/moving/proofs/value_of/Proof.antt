@@ -5,33 +5,22 @@ use Rattle.moving.proofs.Moves.{then-moves}
 use borrow.Author.Needs.{needs}
 use Rattle.moving.proofs.value_of.Statement.{statement}
 use Rattle.moving.proofs.value_of.Tie as tie
-use Rattle.moving.proofs.value_of.Reads as reads
-use Rattle.moving.proofs.value_of.Lts as lts
-use Rattle.json.proofs.byte.blanks_end.Reads as blanks-end-reads
-use Rattle.moving.proofs.behind_byte.Reads as behind-byte-reads
-use Rattle.moving.proofs.behind_string.Reads as behind-string-reads
 
--- src/lib.rt:247:60
 behind-byte-requires : tie.Need-behind-byte-requires
 behind-byte-requires c κs = search needs
 
--- src/lib.rt:247:40
 behind-string-requires : tie.Need-behind-string-requires
 behind-string-requires c κs = search needs
 
--- src/lib.rt:247:9
 blanks-end-requires : tie.Need-blanks-end-requires
 blanks-end-requires c κs = search needs
 
--- src/lib.rt:248:28
 behind-byte-requires-2 : tie.Need-behind-byte-requires-2
 behind-byte-requires-2 c κs = search needs
 
--- src/lib.rt:248:5
 blanks-end-requires-2 : tie.Need-blanks-end-requires-2
 blanks-end-requires-2 c κs = search needs
 
--- src/lib.rt:244:1
 returns : tie.Need-returns
 unfolding valueOf
 returns c =
