@@ -1,10 +1,9 @@
 -- One element more, counted.
 use Prim.Native.Nat.{ℕ, zero, suc, _+_, _-_, _≤_, _<_}
-use mathlib.Core.Path.{_≡_, refl, sym, ap, _∙_}
+use mathlib.Core.Path.{_≡_, refl, sym, _∙_}
 use mathlib.Core.List.{List}
 use mathlib.Core.Bool.{true, false}
 use lib.ListN.{length, drop}
-use native.Mathlib.Numerals.{add-one}
 use native.Mathlib.Omega.{arith}
 use Rattle.json.specs.Tree.{Place, Moves}
 use Rattle.moving.specs.Moving.{firstIn, nextAfter, atEnd}
@@ -34,7 +33,7 @@ module _ {text : List ℕ} {at i n : ℕ} (c : Counted text at i n) where
   counted-more h e m =
       record {
         sum = c .sum ∙ rw (more (length text - n) (length text - (n + 1)) (drop i text) (omega arith) e, ← m .lands) (omega arith);
-        within = omega arith
+        within = omega arith;
       }
 
   pub counted-end : atEnd (drop i text) ≡ true → n ≡ count (elementsIn text (drop at text))

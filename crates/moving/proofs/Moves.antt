@@ -41,7 +41,7 @@ module _ {f g : Place → Place} {text : List ℕ} {at i : ℕ} (l : Leads f g t
         there = e (drop (i + 1) text) ∙ (rw (byte-here text i n) at (l .there));
         ahead = omega (arith, l .ahead);
         inside = λ x. omega arith;
-        outside = λ x. absurd (omega (arith, l .ahead))
+        outside = λ x. absurd (omega (arith, l .ahead));
       }
 
   -- the text is over
@@ -55,7 +55,7 @@ lead-past g m l v =
       there = ap g (v .lands) ∙ l .there;
       ahead = omega (arith, l .ahead, v .ahead);
       inside = λ h. v .inside (l .inside h);
-      outside = λ h. v .outside (omega (arith, l .outside h)) ∙ l .outside h
+      outside = λ h. v .outside (omega (arith, l .outside h)) ∙ l .outside h;
     }
 
 -- The way is over.
@@ -95,5 +95,5 @@ module _ (text : List ℕ) (at n : ℕ) (h : at < length text) where
         lands = drop-length text ∙ sym (drop-drop n at text ∙ drop-of-length-le text {i = at + n} (omega arith));
         ahead = omega arith;
         inside = λ x. omega arith;
-        outside = λ x. absurd (omega arith)
+        outside = λ x. absurd (omega arith);
       }

@@ -1,14 +1,13 @@
 -- What a table says of a byte, row by row.
 use Prim.Native.Nat.{ℕ, _<_, _≤_}
-use mathlib.Core.Path.{_≡_, refl, sym, ap, _∙_}
-use mathlib.Core.Bool.{Bool, true, false, cond}
-use borrow.Author.Tests.{lt-ltb, le-ltb}
-use native.Mathlib.Omega.{arith}
+use mathlib.Core.Path.{_≡_, refl}
 use mathlib.Core.List.{[], _∷_}
+use native.Mathlib.Omega.{arith}
+use borrow.Author.Tests.{lt-ltb, le-ltb}
+use Rattle.json.specs.Rows.{Rows, else, below, look}
 use Rattle.json.specs.Tree.{Place}
 use Rattle.moving.specs.declared.Kind.{Kind}
 use Rattle.moving.specs.Moving.{firstByte, kindOf}
-use Rattle.json.specs.Rows.{Rows, else, below, look}
 
 module _ (A : Type 0) where
   -- the row's bound is above the byte
@@ -25,10 +24,11 @@ module _ (A : Type 0) where
   unfolding look
   last b a = refl
 
--- a value's kind is its first byte's
+-- A value's kind is its first byte's.
 pub by-byte : (s : Place) (b : ℕ) (k : Kind) → b ≡ firstByte s → k ≡ kindOf (b ∷ []) → k ≡ kindOf s
 unfolding kindOf
 by-byte s b k e h = rw (← e) h
 
 pub ruleset rows = (hit, miss, last, arith)
+
 pub ruleset kinds = (by-byte, hit, miss, last, arith)

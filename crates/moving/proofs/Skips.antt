@@ -45,6 +45,7 @@ escape-goes b s = refl
 -- A string inside a list is skipped as it is by itself.
 mutual
   unfolding behindString behindBracket
+
   quotes : (s : Place) (n : ℕ) → inQuotes s n ≡ behindBracket (behindString s) n
   quotes [] n = refl
   quotes (b ∷ s) n = go (eqb b 34) (eqb b 92) (quotes s n) (escapes s n)

@@ -42,6 +42,7 @@ closes b = eqb b 93 || eqb b 125
 -- Behind the bracket that closes a list or an object, from a place inside it: so many more are open. Brackets in strings are none.
 unfoldable mutual
   unfolding opens closes
+
   pub behindBracket : Place → ℕ → Place
   behindBracket [] n = []
   behindBracket (b ∷ s) n =

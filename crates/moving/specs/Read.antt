@@ -25,17 +25,18 @@ written (b ∷ s) = choose (isNumeric b) (λ _. b ∷ written s) λ _. []
 
 unfoldable mutual
   unfolding kindOf firstIn nextAfter valueOf atEnd decoded written
+
   pub treeAt : ℕ → Place → Tree
   treeAt zero s = null s
   treeAt (suc n) s =
       elim (kindOf s) [
-        Object ↦ object s (membersAt n (firstIn s))
-      | Array ↦ list s (elementsAt n (firstIn s))
-      | Text ↦ string s (decoded s)
-      | Number ↦ number s (written s)
-      | True ↦ bool s true
-      | False ↦ bool s false
-      | Null ↦ null s
+        | Object ↦ object s (membersAt n (firstIn s))
+        | Array ↦ list s (elementsAt n (firstIn s))
+        | Text ↦ string s (decoded s)
+        | Number ↦ number s (written s)
+        | True ↦ bool s true
+        | False ↦ bool s false
+        | Null ↦ null s
       ]
 
   pub membersAt : ℕ → Place → Members

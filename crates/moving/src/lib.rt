@@ -252,7 +252,11 @@ pub fn value_of(text: &[u8], at: usize) -> usize
 pub fn at_end(text: &[u8], at: usize) -> bool
     ensures { λ r. ⌜ r ≡ atEnd (drop at (now (text .entry))) ⌝ }
 {
-    if at < text.len() { closes(text[at]) } else { true }
+    if at < text.len() {
+        closes(text[at])
+    } else {
+        true
+    }
 }
 
 // The number of elements of the list at `at`. Each takes at least a byte, so the length is turns enough.

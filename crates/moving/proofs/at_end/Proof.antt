@@ -1,7 +1,8 @@
+-- Whether no element begins at a place.
 use lib.ListN.{drop-of-length-le}
+use borrow.Author.Needs.{needs}
 use Rattle.moving.specs.Moving.{atEnd}
 use Rattle.moving.proofs.Moves.{byte-here}
-use borrow.Author.Needs.{needs}
 use Rattle.moving.proofs.at_end.Statement.{statement}
 use Rattle.moving.proofs.at_end.Tie as tie
 

@@ -1,3 +1,4 @@
+-- Behind the closing bracket. The loop: skipping on from i, with so many more brackets open, ends where skipping from `at` does. No more are open than bytes were passed.
 use Prim.Native.Nat.{_-_, _≤_}
 use lib.ListN.{length}
 use native.Mathlib.Omega.{arith}

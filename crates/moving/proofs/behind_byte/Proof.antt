@@ -1,7 +1,8 @@
+-- Over a byte, where one is left.
 use mathlib.Core.Path.{refl}
 use mathlib.Core.List.{tail}
-use Rattle.moving.proofs.Moves.{lead-start, lead-one, lead-end, moved}
 use borrow.Author.Needs.{needs}
+use Rattle.moving.proofs.Moves.{lead-start, lead-one, lead-end, moved}
 use Rattle.moving.proofs.behind_byte.Statement.{statement}
 use Rattle.moving.proofs.behind_byte.Tie as tie
 

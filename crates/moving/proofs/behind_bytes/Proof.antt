@@ -1,8 +1,9 @@
+-- Over so many bytes, or over all that are left.
 use lib.ListN.{drop}
 use lib.Seq.{drop-nil}
 use native.Mathlib.Omega.{arith}
-use Rattle.moving.proofs.Moves.{lead-start, lead-end, moved, moves-bytes, moves-rest}
 use borrow.Author.Needs.{needs}
+use Rattle.moving.proofs.Moves.{lead-start, lead-end, moved, moves-bytes, moves-rest}
 use Rattle.moving.proofs.behind_bytes.Statement.{statement}
 use Rattle.moving.proofs.behind_bytes.Tie as tie
 

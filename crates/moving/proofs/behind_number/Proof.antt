@@ -1,3 +1,4 @@
+-- Behind a number. The loop: skipping on from i ends where skipping from `at` does.
 use Prim.Native.Nat.{_-_}
 use lib.ListN.{length}
 use borrow.Author.Needs.{needs}

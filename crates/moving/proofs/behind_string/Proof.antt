@@ -1,3 +1,4 @@
+-- Behind a string. The loop: skipping on from i ends where skipping from `at` does; the text that is left gets shorter.
 use Prim.Native.Nat.{_-_}
 use lib.ListN.{length}
 use borrow.Author.Needs.{needs}

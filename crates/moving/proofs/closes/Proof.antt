@@ -1,3 +1,4 @@
+-- Whether a byte closes a list or an object.
 use borrow.Author.Tests.{eq-eqb, ne-eqb}
 use Rattle.moving.specs.Moving.{closes}
 use Rattle.moving.proofs.closes.Statement.{statement}

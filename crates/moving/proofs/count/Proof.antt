@@ -1,5 +1,5 @@
+-- The number of elements. The loop: so many are counted, and the others stand from i on.
 use Prim.Native.Nat.{_-_}
-use mathlib.Core.Path.{sym, _∙_}
 use lib.ListN.{length}
 use borrow.Author.Needs.{needs}
 use Rattle.moving.proofs.Counts.{Counted, counted-none, counted-more, counted-end, counted-all}
@@ -22,7 +22,7 @@ at-end-requires : tie.Need-at-end-requires Inv-loop μ-loop
 at-end-requires c κs = search needs
 
 returns : tie.Need-returns Inv-loop μ-loop
-returns c = counted-end (c .before .before .before .loop .inv) (sym (c .before .at-end .ensures) ∙ c .if1 .taken)
+returns c = counted-end (c .before .before .before .loop .inv) (cc)
 
 next-after-requires : tie.Need-next-after-requires Inv-loop μ-loop
 next-after-requires c κs = search needs
@@ -34,7 +34,7 @@ loop-less : tie.Need-loop-less Inv-loop μ-loop
 loop-less c = search needs
 
 loop-again : tie.Need-loop-again Inv-loop μ-loop
-loop-again c = counted-more (c .before .before .before .before .loop .inv) (c .before .before .before .loop-test .taken) (sym (c .before .before .at-end .ensures) ∙ c .before .if1 .left) (c .next-after .ensures)
+loop-again c = counted-more (c .before .before .before .before .loop .inv) (c .before .before .before .loop-test .taken) (cc) (c .next-after .ensures)
 
 returns-2 : tie.Need-returns-2 Inv-loop μ-loop
 returns-2 c = counted-all (c .before .loop .inv) (c .loop-test .left)

@@ -1,7 +1,8 @@
+-- The first element or member: over the bracket, and over blanks.
+use borrow.Author.Needs.{needs}
 use Rattle.json.specs.Byte.{blanked}
 use Rattle.moving.specs.Moving.{firstIn}
 use Rattle.moving.proofs.Moves.{then-moves}
-use borrow.Author.Needs.{needs}
 use Rattle.moving.proofs.first_in.Statement.{statement}
 use Rattle.moving.proofs.first_in.Tie as tie
 

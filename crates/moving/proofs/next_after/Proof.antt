@@ -1,7 +1,8 @@
+-- The next element or member: over the value, over blanks, and over the comma.
+use borrow.Author.Needs.{needs}
 use Rattle.json.specs.Byte.{blanked}
 use Rattle.moving.specs.Moving.{overComma, nextAfter}
 use Rattle.moving.proofs.Moves.{then-moves}
-use borrow.Author.Needs.{needs}
 use Rattle.moving.proofs.next_after.Statement.{statement}
 use Rattle.moving.proofs.next_after.Tie as tie
 

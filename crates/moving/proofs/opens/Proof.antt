@@ -1,3 +1,4 @@
+-- Whether a byte opens a list or an object.
 use borrow.Author.Tests.{eq-eqb, ne-eqb}
 use Rattle.moving.specs.Moving.{opens}
 use Rattle.moving.proofs.opens.Statement.{statement}

@@ -1,8 +1,9 @@
+-- A member's value: over the name and blanks, and over the colon and blanks.
 use mathlib.Core.List.{tail}
+use borrow.Author.Needs.{needs}
 use Rattle.json.specs.Byte.{blanked}
 use Rattle.moving.specs.Moving.{behindString, valueOf}
 use Rattle.moving.proofs.Moves.{then-moves}
-use borrow.Author.Needs.{needs}
 use Rattle.moving.proofs.value_of.Statement.{statement}
 use Rattle.moving.proofs.value_of.Tie as tie
 
