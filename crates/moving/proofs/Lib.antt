@@ -1,0 +1,5 @@
+-- What the proofs of several functions use.
+pub mod Moves
+mod Rows
+mod Skips
+mod Counts
