@@ -3,3 +3,4 @@ mod Bytes
 mod Digits
 mod Point
 mod Answers
+mod Written

@@ -234,3 +234,24 @@ pub fn decimal_of(raw: &[u8], least: u64) -> Decimal
     amount_from(least, padded(fraction, whole))
 }
 
+// The integer at a place of a walked text.
+pub fn integer_at(text: &[u8], at: usize, least: u64, most: u64) -> Integer
+    ensures { λ r. ⌜ r ≡ integerIn least most (written (drop at (now (text .entry)))) ⌝ }
+{
+    if text.len() <= at {
+        return integer_of(&text[..0], least, most);
+    }
+    let end = moving::behind_number(text, at);
+    integer_of(&text[at..end], least, most)
+}
+
+// The decimal at a place of a walked text.
+pub fn decimal_at(text: &[u8], at: usize, least: u64) -> Decimal
+    ensures { λ r. ⌜ r ≡ decimalFrom least (written (drop at (now (text .entry)))) ⌝ }
+{
+    if text.len() <= at {
+        return decimal_of(&text[..0], least);
+    }
+    let end = moving::behind_number(text, at);
+    decimal_of(&text[at..end], least)
+}
