@@ -175,7 +175,7 @@ fn integer_among(least: u64, most: u64, n: u64, exact: bool) -> Integer
 }
 
 // An integer from `least` to `most`, by the bytes that it is written with.
-pub fn integer(raw: &[u8], least: u64, most: u64) -> Integer
+pub fn integer_of(raw: &[u8], least: u64, most: u64) -> Integer
     ensures { λ r. ⌜ r ≡ integerIn least most (now (raw .entry)) ⌝ }
 {
     if !is_carried(raw) {
@@ -213,7 +213,7 @@ fn amount_from(least: u64, n: u64) -> Decimal
 }
 
 // A decimal from `least` millionths on, by the bytes that it is written with.
-pub fn decimal(raw: &[u8], least: u64) -> Decimal
+pub fn decimal_of(raw: &[u8], least: u64) -> Decimal
     ensures { λ r. ⌜ r ≡ decimalFrom least (now (raw .entry)) ⌝ }
 {
     if !is_carried(raw) {
@@ -239,10 +239,10 @@ pub fn integer_at(text: &[u8], at: usize, least: u64, most: u64) -> Integer
     ensures { λ r. ⌜ r ≡ integerIn least most (written (drop at (now (text .entry)))) ⌝ }
 {
     if text.len() <= at {
-        return integer(&text[..0], least, most);
+        return integer_of(&text[..0], least, most);
     }
     let end = moving::behind_number(text, at);
-    integer(&text[at..end], least, most)
+    integer_of(&text[at..end], least, most)
 }
 
 // The decimal at a place of a walked text.
@@ -250,8 +250,8 @@ pub fn decimal_at(text: &[u8], at: usize, least: u64) -> Decimal
     ensures { λ r. ⌜ r ≡ decimalFrom least (written (drop at (now (text .entry)))) ⌝ }
 {
     if text.len() <= at {
-        return decimal(&text[..0], least);
+        return decimal_of(&text[..0], least);
     }
     let end = moving::behind_number(text, at);
-    decimal(&text[at..end], least)
+    decimal_of(&text[at..end], least)
 }
