@@ -1,53 +1,55 @@
+use borrow.Author.Needs.{needs}
+use Prim.Native.Nat.{_-_}
+use mathlib.Core.Path.{sym, _∙_}
+use native.Mathlib.Omega.{arith}
+use lib.ListN.{length, drop}
+use Rattle.json.specs.Part.{torn, wordStop}
+use Rattle.json.proofs.Moves.{Passes, passes-none, passes-one, answers-here, answers-end}
+use Rattle.json.proofs.Parts.{word-goes, word-differs, word-cut, word-done}
 use Rattle.json.proofs.byte.word_end.Statement.{statement}
 use Rattle.json.proofs.byte.word_end.Tie as tie
-use Rattle.json.proofs.byte.word_end.Reads as reads
-use Rattle.json.proofs.byte.word_end.Lts as lts
 
 abbrev Inv-loop : tie.InvT-loop
-Inv-loop text at word i₀ k₀ i k = ?
+Inv-loop text at word i₀ k₀ i k = Passes (wordStop (drop k word)) (wordStop word) text at i
 
 abbrev μ-loop : tie.MeasureT-loop
-μ-loop text at word i₀ k₀ i k = ?
+μ-loop text at word i₀ k₀ i k = length word - k
 
--- src/byte.rt:156:5
 loop-holds : tie.Need-loop-holds Inv-loop μ-loop
-loop-holds c = ?
+loop-holds c = passes-none (wordStop _) _ _
 
--- src/byte.rt:158:13
 returns : tie.Need-returns Inv-loop μ-loop
-returns c = ?
+returns c = (answers-end (c .before .before .loop .inv) torn (c .if1 .taken) (word-cut _ _ (c .before .loop-test .taken)), omega arith)
 
--- src/byte.rt:160:12
 shared-slice-read-if2 : tie.Need-shared-slice-read-if2 Inv-loop μ-loop
-shared-slice-read-if2 c = ?
+shared-slice-read-if2 c = search needs
 
--- src/byte.rt:160:23
 shared-slice-read-if2-2 : tie.Need-shared-slice-read-if2-2 Inv-loop μ-loop
-shared-slice-read-if2-2 c = ?
+shared-slice-read-if2-2 c = search needs
 
--- src/byte.rt:161:13
 returns-2 : tie.Need-returns-2 Inv-loop μ-loop
-returns-2 c = ?
+returns-2 c = 
+    let l = c .before .before .before .before in
+    (answers-here (l .before .loop .inv) (c .before .before .before .if1 .left) torn (word-differs _ _ (l .loop-test .taken) _ (c .if2 .taken)), omega arith)
 
--- src/byte.rt:163:9
 add-i : tie.Need-add-i Inv-loop μ-loop
-add-i c = ?
+add-i c = search needs
 
--- src/byte.rt:164:9
 add-k : tie.Need-add-k Inv-loop μ-loop
-add-k c = ?
+add-k c = search needs
 
--- src/byte.rt:156:5
 loop-less : tie.Need-loop-less Inv-loop μ-loop
-loop-less c = ?
+loop-less c = search needs
 
--- src/byte.rt:156:5
 loop-again : tie.Need-loop-again Inv-loop μ-loop
-loop-again c = ?
+loop-again c = 
+    let l = c .before .before .before .before in
+    passes-one (l .before .loop .inv) (c .before .before .before .if1 .left) (word-goes _ _ (l .loop-test .taken) _ (c .if2 .left))
 
--- src/byte.rt:151:1
 returns-3 : tie.Need-returns-3 Inv-loop μ-loop
-returns-3 c = ?
+returns-3 c = 
+    let p = c .before .loop .inv in
+    (sym (p .same) ∙ word-done _ _ (c .loop-test .left) _, p .ahead, p .inside (c .before .before .pre))
 
 pub word-end-spec : {M : Type 1} → statement M
 word-end-spec =

@@ -1,3 +1,4 @@
+use Rattle.json.specs.Number.{onward}
 use borrow.Author.Needs.{needs}
 use Rattle.json.proofs.number.digit_after.Statement.{statement}
 use Rattle.json.proofs.number.digit_after.Tie as tie
@@ -57,31 +58,32 @@ after-power-requires-2 : tie.Need-after-power-requires-2
 after-power-requires-2 c κs = search needs
 
 returns : tie.Need-returns
-returns c = rw (c .enum-told .given .1)
+returns c = cc
 
 returns-2 : tie.Need-returns-2
-returns-2 c = rw (c .enum-told2 .given .1)
+returns-2 c = cc
 
 returns-3 : tie.Need-returns-3
-returns-3 c = rw (c .enum-told3 .given .1)
+returns-3 c = cc
 
 returns-4 : tie.Need-returns-4
-returns-4 c = rw (c .enum-told4 .given .1)
+returns-4 c = cc
 
 returns-5 : tie.Need-returns-5
-returns-5 c = rw (c .enum-told5 .given .1)
+returns-5 c = cc
 
 returns-6 : tie.Need-returns-6
-returns-6 c = rw (c .enum-told6 .given .1)
+returns-6 c = cc
 
 returns-7 : tie.Need-returns-7
-returns-7 c = rw (c .enum-told7 .given .1)
+returns-7 c = cc
 
 returns-8 : tie.Need-returns-8
-returns-8 c = rw (c .enum-told8 .given .1)
+unfolding onward
+returns-8 c = rw (c .before .enum-told8 .given .1) (c .after-power .ensures)
 
 returns-9 : tie.Need-returns-9
-returns-9 c = rw (c .enum-told9 .given .1)
+returns-9 c = cc
 
 pub digit-after-spec : {M : Type 1} → statement M
 digit-after-spec =

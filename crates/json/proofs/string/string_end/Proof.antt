@@ -1,76 +1,72 @@
+use borrow.Author.Needs.{needs}
+use Prim.Native.Nat.{_-_}
+use mathlib.Core.Path.{sym}
+use native.Mathlib.Omega.{arith}
+use lib.ListN.{length}
+use Rattle.json.specs.Part.{past, torn, stringStop}
+use Rattle.json.specs.declared.string.InString.the-variants.{Plain}
+use Rattle.json.proofs.Moves.{Passes, passes-none, passes-one, answers-here, answers-end}
+use Rattle.json.proofs.Parts.{string-goes, string-closes, string-refuses, string-none, skipped}
 use Rattle.json.proofs.string.string_end.Statement.{statement}
 use Rattle.json.proofs.string.string_end.Tie as tie
-use Rattle.json.proofs.string.string_end.Reads as reads
-use Rattle.json.proofs.string.string_end.Lts as lts
-use Rattle.json.proofs.string.ascii_end.Reads as ascii-end-reads
-use Rattle.json.proofs.string.ascii_skipped.Reads as ascii-skipped-reads
-use Rattle.json.proofs.string.char_after.Reads as char-after-reads
 
 abbrev Inv-loop : tie.InvT-loop
-Inv-loop text at i₀ state₀ i state = ?
+Inv-loop text at i₀ state₀ i state = Passes (stringStop state) (stringStop Plain) text at i
 
 abbrev μ-loop : tie.MeasureT-loop
-μ-loop text at i₀ state₀ i state = ?
+μ-loop text at i₀ state₀ i state = length text - i
 
--- src/string.rt:305:9
 ascii-end-requires : tie.Need-ascii-end-requires Inv-loop μ-loop
-ascii-end-requires c κs = ?
+ascii-end-requires c κs = search needs
 
--- src/string.rt:307:5
 loop-holds : tie.Need-loop-holds Inv-loop μ-loop
-loop-holds c = ?
+loop-holds c = skipped (passes-none (stringStop Plain) _ _) (c .ascii-end .ensures)
 
--- src/string.rt:308:33
 shared-slice-read-char-after : tie.Need-shared-slice-read-char-after Inv-loop μ-loop
-shared-slice-read-char-after c = ?
+shared-slice-read-char-after c = search needs
 
--- src/string.rt:308:15
 char-after-requires : tie.Need-char-after-requires Inv-loop μ-loop
-char-after-requires c κs = ?
+char-after-requires c κs = search needs
 
--- src/string.rt:309:28
 enum-known-next : tie.Need-enum-known-next Inv-loop μ-loop
-enum-known-next c = ?
+enum-known-next c = search needs
 
--- src/string.rt:311:47
 add-ascii-skipped : tie.Need-add-ascii-skipped Inv-loop μ-loop
-add-ascii-skipped c = ?
+add-ascii-skipped c = search needs
 
--- src/string.rt:311:17
 ascii-skipped-requires : tie.Need-ascii-skipped-requires Inv-loop μ-loop
-ascii-skipped-requires c κs = ?
+ascii-skipped-requires c κs = search needs
 
--- src/string.rt:307:5
 loop-less : tie.Need-loop-less Inv-loop μ-loop
-loop-less c = ?
+loop-less c = search needs
 
--- src/string.rt:307:5
 loop-again : tie.Need-loop-again Inv-loop μ-loop
-loop-again c = ?
+loop-again c = 
+    let l = c .before .before .before .before .before .before in
+    skipped (passes-one (l .before .loop .inv) (l .loop-test .taken) (string-goes _ _ (cc))) (c .ascii-skipped .ensures)
 
--- src/string.rt:313:51
 enum-told : tie.Need-enum-told Inv-loop μ-loop
-enum-told c = ?
+enum-told c = search needs
 
--- src/string.rt:313:51
 add-t12 : tie.Need-add-t12 Inv-loop μ-loop
-add-t12 c = ?
+add-t12 c = search needs
 
--- src/string.rt:313:33
 returns : tie.Need-returns Inv-loop μ-loop
-returns c = ?
+returns c = 
+    let l = c .before .before .before .before in
+    let p = passes-one (l .before .loop .inv) (l .loop-test .taken) {k = past} (string-closes _ _ (cc)) in
+    (sym (p .same), p .ahead, omega arith)
 
--- src/string.rt:314:34
 enum-told-2 : tie.Need-enum-told-2 Inv-loop μ-loop
-enum-told-2 c = ?
+enum-told-2 c = search needs
 
--- src/string.rt:314:34
 returns-2 : tie.Need-returns-2 Inv-loop μ-loop
-returns-2 c = ?
+returns-2 c = 
+    let l = c .before .before .before .before in
+    (answers-here (l .before .loop .inv) (l .loop-test .taken) torn (string-refuses _ _ (cc)), omega arith)
 
--- src/string.rt:302:1
 returns-3 : tie.Need-returns-3 Inv-loop μ-loop
-returns-3 c = ?
+returns-3 c = (answers-end (c .before .loop .inv) torn (c .loop-test .left) (string-none _), omega arith)
 
 pub string-end-spec : {M : Type 1} → statement M
 string-end-spec =
