@@ -2,3 +2,6 @@
 mod Rows
 mod Moves
 mod Parts
+mod Frames
+mod Walks
+mod Turns

@@ -2,7 +2,7 @@
 use Prim.Native.Nat.{ℕ, suc, _+_, _<_, _≤_}
 use mathlib.Core.Path.{_≡_, refl, sym, ap, _∙_}
 use mathlib.Core.List.{List, [], _∷_}
-use mathlib.Core.Bool.{true, false}
+use mathlib.Core.Bool.{Bool, true, false}
 use lib.ListN.{length, getD, drop, drop-of-length-le}
 use lib.Seq.{drop-cons, drop-length}
 use native.Mathlib.Numerals.{add-one}
@@ -56,3 +56,15 @@ module _ {text : List ℕ} {at i : ℕ} (p : Passes blanked blanked text at i) (
 
   pub blanks-over : length text ≤ i → Moves blanked text at i
   blanks-over h = record { lands = drop-of-length-le text h ∙ sym (drop-length text) ∙ sym (answers-end p (λ s. s) h blanked-none); ahead = p .ahead; inside = p .inside; outside = o }
+
+-- where the blanks end stands no blank
+blanked-head : (s : List ℕ) (b : ℕ) (r : List ℕ) → blanked s ≡ b ∷ r → isBlank b ≡ false
+blanked-head [] b r h = let z : [] ≡ b ∷ r = sym blanked-none ∙ h in cc
+blanked-head (a ∷ s) b r h = by (isBlank a) refl (blanked-head s b r)
+  where
+    by : (t : Bool) → isBlank a ≡ t → (blanked s ≡ b ∷ r → isBlank b ≡ false) → isBlank b ≡ false
+    by true e more = more (sym (blank-goes a e s) ∙ h)
+    by false e more = let z : a ∷ s ≡ b ∷ r = sym (blank-stays a e s) ∙ h in cc
+
+pub no-blank : {text : List ℕ} {at i : ℕ} → Moves blanked text at i → i < length text → isBlank (getD text i 0) ≡ false
+no-blank {text} {at} {i} v h = blanked-head (drop at text) (getD text i 0) (drop (suc i) text) (sym (v .lands) ∙ drop-cons text i 0 h)
