@@ -33,6 +33,10 @@ module _ {A : Type 0} {f g : List ℕ → A} {text : List ℕ} {at i : ℕ} (p :
     pub answers-here : (k : List ℕ → A) → ((s : List ℕ) → f (getD text i 0 ∷ s) ≡ k (getD text i 0 ∷ s)) → g (drop at text) ≡ k (drop i text)
     answers-here k law = sym (p .same) ∙ ap f (drop-cons text i 0 h) ∙ law (drop (suc i) text) ∙ ap k (sym (drop-cons text i 0 h))
 
+  -- more bytes take f to k
+  pub passes-on : {k : List ℕ → A} {r : ℕ} → f (drop i text) ≡ k (drop r text) → i < r → r ≤ length text → Passes k g text at r
+  passes-on e l h = record { same = sym e ∙ p .same; ahead = omega (arith, p .ahead); inside = λ _. h }
+
   -- the answer is of the text's end
   pub answers-end : (k : List ℕ → A) → length text ≤ i → f [] ≡ k [] → g (drop at text) ≡ k (drop (length text) text)
   answers-end k h e = sym (p .same) ∙ ap f (drop-of-length-le text h) ∙ e ∙ ap k (sym (drop-length text))

@@ -53,10 +53,10 @@ abbrev pub stopped : Stop → (List ℕ → Walked) → Walked
 stopped (past r) f = f r
 stopped (torn p) f = refused2 p
 
-pub part-turns : (text : List ℕ) {at from d n : ℕ} (w : Stop) (part : Part) (mode : Mode) → Open d n → at < from → Stops text from w part
+pub part-turns : (text : List ℕ) (at : ℕ) {d n : ℕ} (w : Stop) (part : Part) (mode : Mode) → Open d n → Stops text (suc at) w part
     → Turned text at (stopped w (walk (modeOf mode) (frames d n))) (behindPart part mode d n)
-part-turns text w (Past e) mode o h s = (rw (s .0), omega arith, s .2, o)
-part-turns text w (Torn p) mode o h s = (rw (s .0), s .1)
+part-turns text at w (Past e) mode o s = (rw (s .0), s .1, s .2, o)
+part-turns text at w (Torn p) mode o s = (rw (s .0), s .1)
 
 module _ (inside : InString → W.Mode) (out : W.Mode) (is : (c : InString) (b : ℕ) (k : List Frame) → step (inside c) b k ≡ stepChars inside out (after c b) k) where
   chars-walk : (c : InString) (k : List Frame) (s : List ℕ) → walk (inside c) k s ≡ stopped (stringStop c s) (walk out k)
@@ -106,7 +106,7 @@ word-walk w [] k (b ∷ s) = rw walk-one (choice b s k (eqb b w) _ _ _ _ refl re
 word-walk w (v ∷ ws) k (b ∷ s) = rw walk-one (choice b s k (eqb b w) _ _ _ _ (word-walk v ws k s) refl)
 
 -- true, false, null or a number: a value that begins with none of " { [
-pub plain-walk : (b : ℕ) (s : List ℕ) (k : List Frame) → (b ≡ 34 → ⊥) → (b ≡ 123 → ⊥) → (b ≡ 91 → ⊥)
+plain-walk : (b : ℕ) (s : List ℕ) (k : List Frame) → (b ≡ 34 → ⊥) → (b ≡ 123 → ⊥) → (b ≡ 91 → ⊥)
     → onward-from b s (W.begin b k) ≡ stopped (plainStop (b ∷ s)) (walk W.behind k)
 unfolding plainStop
 plain-walk b s k n₁ n₂ n₃ =
@@ -119,6 +119,11 @@ plain-walk b s k n₁ n₂ n₃ =
         → onward-from b s (W.digits (onward Start b) k) ≡ stopped (numberStop Start (b ∷ s)) (walk W.behind k)
     by (Onward m) e = rw (e, number-goes Start b e s) (number-walk m k s)
     by Over e = rw (e, number-torn Start b e refl s)
+
+pub plain-at : (text : List ℕ) (at : ℕ) → at < length text → (k : List Frame)
+    → (getD text at 0 ≡ 34 → ⊥) → (getD text at 0 ≡ 123 → ⊥) → (getD text at 0 ≡ 91 → ⊥)
+    → steps text at (W.begin (getD text at 0) k) ≡ stopped (plainStop (drop at text)) (walk W.behind k)
+plain-at text at h k n₁ n₂ n₃ = rw (drop-cons text at 0 h) (plain-walk (getD text at 0) (drop (suc at) text) k n₁ n₂ n₃)
 
 -- ---- blanks
 module _ (m : W.Mode) (stays : (b : ℕ) (k : List Frame) → isBlank b ≡ true → step m b k ≡ go m k) where
@@ -152,3 +157,21 @@ mode-stays Colon b k e = rw e
 mode-stays Behind b [] e = rw e
 mode-stays Behind b (aList ∷ k) e = rw e
 mode-stays Behind b (anObject ∷ k) e = rw e
+
+-- ---- inside the text's own brace, which was at the place before `start`
+pub record Inside (text : List ℕ) (start at : ℕ) (mode : Mode) (d n : ℕ) : Type 0 where
+  pub passes : Passes (walk (modeOf mode) (frames d n)) (walk W.firstName (anObject ∷ [])) text start at
+  pub opens : Open d n
+
+pub inside-blanks : {text : List ℕ} {start at r : ℕ} {mode : Mode} {d n : ℕ} → Inside text start at mode d n → Moves blanked text at r → Inside text start r mode d n
+inside-blanks {mode = mode} {d = d} {n = n} i v = record { passes = blanks-passed (modeOf mode) (mode-stays mode) (frames d n) (i .passes) v; opens = i .opens }
+
+-- ---- the text's own brace
+module _ (b : ℕ) (blank : isBlank b ≡ false) where
+  pub top-refuses : (b ≡ 123 → ⊥) → (s : List ℕ) → walk W.top [] (b ∷ s) ≡ refused2 (b ∷ s)
+  unfolding step
+  top-refuses n s = rw (walk-one, blank, ne-eqb b 123 n)
+
+  pub top-opens : b ≡ 123 → (s : List ℕ) → walk W.top [] (b ∷ s) ≡ walk W.firstName (anObject ∷ []) s
+  unfolding step
+  top-opens e s = rw (walk-one, blank, e)

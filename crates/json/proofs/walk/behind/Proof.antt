@@ -1,28 +1,27 @@
+use native.Mathlib.Omega.{arith}
+use Rattle.json.specs.Walk as W
+use Rattle.json.specs.Walk.{step}
+use Rattle.json.specs.Turn.{frames}
+use Rattle.json.proofs.Walks.{walk-at}
 use borrow.Author.Needs.{needs}
 use Rattle.json.proofs.walk.behind.Statement.{statement}
 use Rattle.json.proofs.walk.behind.Tie as tie
-use Rattle.json.proofs.walk.behind.Reads as reads
-use Rattle.json.proofs.walk.behind.Lts as lts
-use Rattle.json.proofs.walk.behind_element.Reads as behind-element-reads
-use Rattle.json.proofs.walk.behind_member.Reads as behind-member-reads
 
--- src/walk.rt:198:9
 returns : tie.Need-returns
-returns c = ?
+unfolding frames step
+returns c = 
+    let s = c .before .before in
+    (rw (walk-at _ _ (s .pre .0) W.behind _, c .if1 .taken, s .pre .1), omega arith)
 
--- src/walk.rt:201:9
 behind-element-requires : tie.Need-behind-element-requires
 behind-element-requires c κs = search needs
 
--- src/walk.rt:201:9
 returns-2 : tie.Need-returns-2
 returns-2 c = search needs
 
--- src/walk.rt:203:5
 behind-member-requires : tie.Need-behind-member-requires
 behind-member-requires c κs = search needs
 
--- src/walk.rt:193:1
 returns-3 : tie.Need-returns-3
 returns-3 c = search needs
 

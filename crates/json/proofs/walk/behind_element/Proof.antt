@@ -1,33 +1,36 @@
+use native.Mathlib.Omega.{arith}
+use native.Mathlib.Numerals.{add-one}
+use borrow.Author.Tests.{ne-eqb}
+use Rattle.json.specs.Walk as W
+use Rattle.json.proofs.Walks.{walk-at}
+use Rattle.json.proofs.Turns.{behind-element}
 use borrow.Author.Needs.{needs}
 use Rattle.json.proofs.walk.behind_element.Statement.{statement}
 use Rattle.json.proofs.walk.behind_element.Tie as tie
-use Rattle.json.proofs.walk.behind_element.Reads as reads
-use Rattle.json.proofs.walk.behind_element.Lts as lts
-use Rattle.json.proofs.walk.shut.Reads as shut-reads
 
--- src/walk.rt:168:13
 shared-slice-read-b : tie.Need-shared-slice-read-b
 shared-slice-read-b c = search needs
 
--- src/walk.rt:170:36
 add-t9 : tie.Need-add-t9
 add-t9 c = search needs
 
--- src/walk.rt:170:9
 returns : tie.Need-returns
-returns c = ?
+returns c = 
+    let s = c .before .before .before in
+    (rw (walk-at _ _ (s .pre .0) W.behind _, behind-element _ _ _ (s .pre .3) (s .pre .1) (s .pre .4), c .if1 .taken, add-one), omega arith, omega arith, s .pre .2)
 
--- src/walk.rt:173:9
 shut-requires : tie.Need-shut-requires
 shut-requires c κs = search needs
 
--- src/walk.rt:173:9
 returns-2 : tie.Need-returns-2
-returns-2 c = ?
+returns-2 c = 
+    let s = c .before .before .before .before .before in
+    rw (walk-at _ _ (s .pre .0) W.behind _, behind-element _ _ _ (s .pre .3) (s .pre .1) (s .pre .4), c .before .if2 .taken) (c .shut .ensures)
 
--- src/walk.rt:164:1
 returns-3 : tie.Need-returns-3
-returns-3 c = ?
+returns-3 c = 
+    let s = c .before .before .before .before in
+    (rw (walk-at _ _ (s .pre .0) W.behind _, behind-element _ _ _ (s .pre .3) (s .pre .1) (s .pre .4), ne-eqb _ 44 (c .before .if1 .left), ne-eqb _ 93 (c .if2 .left)), omega arith)
 
 pub behind-element-spec : {M : Type 1} → statement M
 behind-element-spec =

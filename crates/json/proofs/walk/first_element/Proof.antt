@@ -1,29 +1,31 @@
+use borrow.Author.Needs.{needs}
+use borrow.Author.Tests.{ne-eqb}
+use Rattle.json.specs.Walk as W
+use Rattle.json.specs.Walk.{step}
+use Rattle.json.proofs.Walks.{walk-at}
 use Rattle.json.proofs.walk.first_element.Statement.{statement}
 use Rattle.json.proofs.walk.first_element.Tie as tie
-use Rattle.json.proofs.walk.first_element.Reads as reads
-use Rattle.json.proofs.walk.first_element.Lts as lts
-use Rattle.json.proofs.walk.begin.Reads as begin-reads
-use Rattle.json.proofs.walk.shut.Reads as shut-reads
 
--- src/walk.rt:127:8
 shared-slice-read-if1 : tie.Need-shared-slice-read-if1
-shared-slice-read-if1 c = ?
+shared-slice-read-if1 c = search needs
 
--- src/walk.rt:128:9
 shut-requires : tie.Need-shut-requires
-shut-requires c κs = ?
+shut-requires c κs = search needs
 
--- src/walk.rt:128:9
 returns : tie.Need-returns
-returns c = ?
+unfolding step
+returns c = 
+    let s = c .before .before .before .before in
+    rw (walk-at _ _ (s .pre .0) W.firstElement _, s .pre .1, c .before .if1 .taken) (c .shut .ensures)
 
--- src/walk.rt:130:5
 begin-requires : tie.Need-begin-requires
-begin-requires c κs = ?
+begin-requires c κs = search needs
 
--- src/walk.rt:123:1
 returns-2 : tie.Need-returns-2
-returns-2 c = ?
+unfolding step
+returns-2 c = 
+    let s = c .before .before .before .before in
+    rw (walk-at _ _ (s .pre .0) W.firstElement _, s .pre .1, ne-eqb _ 93 (c .before .if1 .left)) (c .begin .ensures)
 
 pub first-element-spec : {M : Type 1} → statement M
 first-element-spec =

@@ -1,29 +1,32 @@
+use borrow.Author.Needs.{needs}
+use borrow.Author.Tests.{ne-eqb}
+use Rattle.json.specs.Walk as W
+use Rattle.json.specs.Walk.{step}
+use Rattle.json.proofs.Walks.{walk-at}
 use Rattle.json.proofs.walk.first_name.Statement.{statement}
 use Rattle.json.proofs.walk.first_name.Tie as tie
-use Rattle.json.proofs.walk.first_name.Reads as reads
-use Rattle.json.proofs.walk.first_name.Lts as lts
-use Rattle.json.proofs.walk.name.Reads as name-reads
-use Rattle.json.proofs.walk.shut.Reads as shut-reads
 
--- src/walk.rt:147:8
 shared-slice-read-if1 : tie.Need-shared-slice-read-if1
-shared-slice-read-if1 c = ?
+shared-slice-read-if1 c = search needs
 
--- src/walk.rt:148:9
 shut-requires : tie.Need-shut-requires
-shut-requires c κs = ?
+shut-requires c κs = search needs
 
--- src/walk.rt:148:9
 returns : tie.Need-returns
-returns c = ?
+unfolding step
+returns c = 
+    let s = c .before .before .before .before in
+    rw (walk-at _ _ (s .pre .0) W.firstName _, s .pre .1, c .before .if1 .taken) (c .shut .ensures)
 
--- src/walk.rt:150:5
 name-requires : tie.Need-name-requires
-name-requires c κs = ?
+name-requires c κs = search needs
 
--- src/walk.rt:143:1
 returns-2 : tie.Need-returns-2
-returns-2 c = ?
+unfolding step
+returns-2 c = 
+    let s = c .before .before .before .before in
+    rw (walk-at _ _ (s .pre .0) W.firstName _, s .pre .1, ne-eqb _ 125 (c .before .if1 .left))
+    (rw (walk-at _ _ (s .pre .0) W.name _, s .pre .1) at (c .name .ensures))
 
 pub first-name-spec : {M : Type 1} → statement M
 first-name-spec =

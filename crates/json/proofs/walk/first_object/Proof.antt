@@ -1,38 +1,38 @@
+use mathlib.Core.List.{[]}
+use native.Mathlib.Omega.{arith}
+use Rattle.json.specs.Walk as W
+use Rattle.json.specs.Walk.{walk}
+use Rattle.json.proofs.Moves.{passes-none, passes-one, answers-here, answers-end, no-blank}
+use Rattle.json.proofs.Walks.{walk-none, blanks-passed, top-stays, top-refuses, top-opens}
 use borrow.Author.Needs.{needs}
 use Rattle.json.proofs.walk.first_object.Statement.{statement}
 use Rattle.json.proofs.walk.first_object.Tie as tie
-use Rattle.json.proofs.walk.first_object.Reads as reads
-use Rattle.json.proofs.walk.first_object.Lts as lts
-use Rattle.json.proofs.byte.blanks_end.Reads as blanks-end-reads
-use Rattle.json.proofs.walk.inside_end.Reads as inside-end-reads
 
--- src/walk.rt:254:9
 blanks-end-requires : tie.Need-blanks-end-requires
 blanks-end-requires c κs = search needs
 
--- src/walk.rt:256:9
 returns : tie.Need-returns
-returns c = ?
+returns c = (answers-end (blanks-passed W.top top-stays [] (passes-none (walk W.top []) _ 0) (c .before .blanks-end .ensures)) W.refused2 (c .if1 .taken) (walk-none _ _), omega arith)
 
--- src/walk.rt:258:8
 shared-slice-read-if2 : tie.Need-shared-slice-read-if2
 shared-slice-read-if2 c = search needs
 
--- src/walk.rt:259:9
 returns-2 : tie.Need-returns-2
-returns-2 c = ?
+returns-2 c = 
+    let v = c .before .before .before .blanks-end .ensures in
+    (answers-here (blanks-passed W.top top-stays [] (passes-none (walk W.top []) _ 0) (c .before .before .before .blanks-end .ensures)) (c .before .before .if1 .left) W.refused2 (top-refuses _ (no-blank v (c .before .before .if1 .left)) (c .if2 .taken)), omega arith)
 
--- src/walk.rt:261:22
 add-inside-end : tie.Need-add-inside-end
 add-inside-end c = search needs
 
--- src/walk.rt:261:5
 inside-end-requires : tie.Need-inside-end-requires
 inside-end-requires c κs = search needs
 
--- src/walk.rt:251:1
 returns-3 : tie.Need-returns-3
-returns-3 c = ?
+returns-3 c = 
+    let v = c .before .before .before .before .blanks-end .ensures in
+    let h = c .before .before .before .if1 .left in
+    rw (passes-one (blanks-passed W.top top-stays [] (passes-none (walk W.top []) _ 0) (c .before .before .before .before .blanks-end .ensures)) h (top-opens _ (no-blank v h) (c .before .if2 .left)) .same) at (c .inside-end .ensures)
 
 pub first-object-spec : {M : Type 1} → statement M
 first-object-spec =

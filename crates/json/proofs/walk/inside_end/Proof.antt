@@ -1,71 +1,75 @@
+use borrow.Author.Needs.{needs}
+use Prim.Native.Nat.{_-_}
+use mathlib.Core.Path.{sym, _∙_}
+use mathlib.Core.List.{[], _∷_}
+use native.Mathlib.Omega.{arith}
+use lib.ListN.{length}
+use Rattle.json.specs.Walk as W
+use Rattle.json.specs.Walk.{walk}
+use Rattle.json.specs.Turn.{frames}
+use Rattle.json.proofs.Moves.{passes-none, passes-on, answers-end, no-blank}
+use Rattle.json.proofs.Walks.{walk-none, Inside, inside-blanks}
 use Rattle.json.proofs.walk.inside_end.Statement.{statement}
 use Rattle.json.proofs.walk.inside_end.Tie as tie
-use Rattle.json.proofs.walk.inside_end.Reads as reads
-use Rattle.json.proofs.walk.inside_end.Lts as lts
-use Rattle.json.proofs.byte.blanks_end.Reads as blanks-end-reads
-use Rattle.json.proofs.walk.turn_at.Reads as turn-at-reads
 
 abbrev Inv-loop : tie.InvT-loop
-Inv-loop text start at₀ mode₀ depth₀ kinds₀ at mode depth kinds = ?
+Inv-loop text start at₀ mode₀ depth₀ kinds₀ at mode depth kinds = Inside text start at mode depth kinds
 
 abbrev μ-loop : tie.MeasureT-loop
-μ-loop text start at₀ mode₀ depth₀ kinds₀ at mode depth kinds = ?
+μ-loop text start at₀ mode₀ depth₀ kinds₀ at mode depth kinds = length text - at
 
--- src/walk.rt:230:5
 loop-holds : tie.Need-loop-holds Inv-loop μ-loop
-loop-holds c = ?
+unfolding frames
+loop-holds c = record { passes = passes-none (walk W.firstName (W.anObject ∷ [])) _ _; opens = record { few = omega arith; small = omega arith } }
 
--- src/walk.rt:231:13
 blanks-end-requires : tie.Need-blanks-end-requires Inv-loop μ-loop
-blanks-end-requires c κs = ?
+blanks-end-requires c κs = search needs
 
--- src/walk.rt:233:13
 returns : tie.Need-returns Inv-loop μ-loop
-returns c = ?
+returns c = (answers-end (inside-blanks (c .before .before .before .loop .inv) (c .before .blanks-end .ensures) .passes) W.refused2 (c .if1 .taken) (walk-none _ _), omega arith)
 
--- src/walk.rt:235:15
 turn-at-requires : tie.Need-turn-at-requires Inv-loop μ-loop
-turn-at-requires c κs = ?
+turn-at-requires c κs = (omega arith, no-blank (c .before .blanks-end .ensures) (omega arith), c .before .before .before .loop .inv .opens)
 
--- src/walk.rt:236:22
 enum-known-next : tie.Need-enum-known-next Inv-loop μ-loop
-enum-known-next c = ?
+enum-known-next c = search needs
 
--- src/walk.rt:230:5
 loop-less : tie.Need-loop-less Inv-loop μ-loop
-loop-less c = ?
+loop-less c = 
+    let t = rw (c .before .next .given .1) at (c .before .before .before .turn-at .ensures) in
+    omega (arith, t .1, t .2)
 
--- src/walk.rt:230:5
 loop-again : tie.Need-loop-again Inv-loop μ-loop
-loop-again c = ?
+loop-again c = 
+    let t = rw (c .before .next .given .1) at (c .before .before .before .turn-at .ensures) in
+    record { passes = passes-on (inside-blanks (c .before .before .before .before .before .before .before .loop .inv) (c .before .before .before .before .before .blanks-end .ensures) .passes) (t .0) (t .1) (t .2); opens = t .3 }
 
--- src/walk.rt:242:23
 enum-known-e : tie.Need-enum-known-e Inv-loop μ-loop
-enum-known-e c = ?
+enum-known-e c = search needs
 
--- src/walk.rt:242:29
 returns-2 : tie.Need-returns-2 Inv-loop μ-loop
-returns-2 c = ?
+returns-2 c = 
+    let t = rw (c .before .e .given .1) at (c .before .before .before .turn-at .ensures) in
+    (sym (inside-blanks (c .before .before .before .before .before .before .before .loop .inv) (c .before .before .before .before .before .blanks-end .ensures) .passes .same) ∙ t .0, t .1)
 
--- src/walk.rt:243:23
 enum-known-p : tie.Need-enum-known-p Inv-loop μ-loop
-enum-known-p c = ?
+enum-known-p c = search needs
 
--- src/walk.rt:243:29
 returns-3 : tie.Need-returns-3 Inv-loop μ-loop
-returns-3 c = ?
+returns-3 c = 
+    let t = rw (c .before .p .given .1) at (c .before .before .before .turn-at .ensures) in
+    (sym (inside-blanks (c .before .before .before .before .before .before .before .loop .inv) (c .before .before .before .before .before .blanks-end .ensures) .passes .same) ∙ t .0, t .1)
 
--- src/walk.rt:244:24
 enum-known-p-2 : tie.Need-enum-known-p-2 Inv-loop μ-loop
-enum-known-p-2 c = ?
+enum-known-p-2 c = search needs
 
--- src/walk.rt:244:30
 returns-4 : tie.Need-returns-4 Inv-loop μ-loop
-returns-4 c = ?
+returns-4 c = 
+    let t = rw (c .before .p2 .given .1) at (c .before .before .before .turn-at .ensures) in
+    (sym (inside-blanks (c .before .before .before .before .before .before .before .loop .inv) (c .before .before .before .before .before .blanks-end .ensures) .passes .same) ∙ t .0, t .1)
 
--- src/walk.rt:222:1
 returns-5 : tie.Need-returns-5 Inv-loop μ-loop
-returns-5 c = ?
+returns-5 c = (answers-end (c .before .loop .inv .passes) W.refused2 (c .loop-test .left) (walk-none _ _), omega arith)
 
 pub inside-end-spec : {M : Type 1} → statement M
 inside-end-spec =

@@ -1,46 +1,50 @@
+use Prim.Native.Nat.{ℕ}
+use native.Mathlib.Omega.{arith}
+use lib.ListN.{drop-of-length-le}
+use lib.Seq.{drop-cons}
+use Rattle.json.specs.Walk.{oneObject}
 use borrow.Author.Needs.{needs}
 use Rattle.json.proofs.walk.one_object.Statement.{statement}
 use Rattle.json.proofs.walk.one_object.Tie as tie
-use Rattle.json.proofs.walk.one_object.Reads as reads
-use Rattle.json.proofs.walk.one_object.Lts as lts
-use Rattle.json.proofs.byte.blanks_end.Reads as blanks-end-reads
-use Rattle.json.proofs.walk.first_object.Reads as first-object-reads
 
--- src/walk.rt:268:11
 first-object-requires : tie.Need-first-object-requires
 first-object-requires c κs = search needs
 
--- src/walk.rt:269:17
 enum-known-e : tie.Need-enum-known-e
 enum-known-e c = search needs
 
--- src/walk.rt:270:17
 blanks-end-requires : tie.Need-blanks-end-requires
 blanks-end-requires c κs = search needs
 
--- src/walk.rt:272:17
 returns : tie.Need-returns
-returns c = ?
+unfolding oneObject
+returns c = 
+    let t = rw (c .before .before .before .e .given .1) at (c .before .before .before .before .before .first-object .ensures) in
+    (rw (t .0, ← c .before .blanks-end .ensures .lands, drop-cons {A = ℕ} _ _ 0 (c .if1 .taken)), omega arith)
 
--- src/walk.rt:276:18
 enum-known-p : tie.Need-enum-known-p
 enum-known-p c = search needs
 
--- src/walk.rt:277:19
 enum-known-p-2 : tie.Need-enum-known-p-2
 enum-known-p-2 c = search needs
 
--- src/walk.rt:265:1
 returns-2 : tie.Need-returns-2
-returns-2 c = ?
+unfolding oneObject
+returns-2 c = 
+    let t = rw (c .before .before .before .e .given .1) at (c .before .before .before .before .before .first-object .ensures) in
+    (rw (t .0, ← c .before .blanks-end .ensures .lands, drop-of-length-le _ (c .if1 .left)), t .1)
 
--- src/walk.rt:265:1
 returns-3 : tie.Need-returns-3
-returns-3 c = ?
+unfolding oneObject
+returns-3 c = 
+    let t = rw (c .before .p .given .1) at (c .before .before .before .first-object .ensures) in
+    (rw (t .0), t .1)
 
--- src/walk.rt:265:1
 returns-4 : tie.Need-returns-4
-returns-4 c = ?
+unfolding oneObject
+returns-4 c = 
+    let t = rw (c .before .p2 .given .1) at (c .before .before .before .first-object .ensures) in
+    (rw (t .0), t .1)
 
 pub one-object-spec : {M : Type 1} → statement M
 one-object-spec =

@@ -1,85 +1,66 @@
+use borrow.Author.Needs.{needs}
+use Rattle.json.specs.Walk as W
+use Rattle.json.specs.Walk.{step}
+use Rattle.json.proofs.Walks.{walk-at}
 use Rattle.json.proofs.walk.turn_at.Statement.{statement}
 use Rattle.json.proofs.walk.turn_at.Tie as tie
-use Rattle.json.proofs.walk.turn_at.Reads as reads
-use Rattle.json.proofs.walk.turn_at.Lts as lts
-use Rattle.json.proofs.walk.begin.Reads as begin-reads
-use Rattle.json.proofs.walk.behind.Reads as behind-reads
-use Rattle.json.proofs.walk.colon.Reads as colon-reads
-use Rattle.json.proofs.walk.first_element.Reads as first-element-reads
-use Rattle.json.proofs.walk.first_name.Reads as first-name-reads
-use Rattle.json.proofs.walk.name.Reads as name-reads
 
--- src/walk.rt:212:24
 enum-told : tie.Need-enum-told
-enum-told c = ?
+enum-told c = search needs
 
--- src/walk.rt:212:24
 begin-requires : tie.Need-begin-requires
-begin-requires c κs = ?
+begin-requires c κs = search needs
 
--- src/walk.rt:213:31
 enum-told-2 : tie.Need-enum-told-2
-enum-told-2 c = ?
+enum-told-2 c = search needs
 
--- src/walk.rt:213:31
 first-element-requires : tie.Need-first-element-requires
-first-element-requires c κs = ?
+first-element-requires c κs = search needs
 
--- src/walk.rt:214:28
 enum-told-3 : tie.Need-enum-told-3
-enum-told-3 c = ?
+enum-told-3 c = search needs
 
--- src/walk.rt:214:28
 first-name-requires : tie.Need-first-name-requires
-first-name-requires c κs = ?
+first-name-requires c κs = search needs
 
--- src/walk.rt:215:23
 enum-told-4 : tie.Need-enum-told-4
-enum-told-4 c = ?
+enum-told-4 c = search needs
 
--- src/walk.rt:215:23
 name-requires : tie.Need-name-requires
-name-requires c κs = ?
+name-requires c κs = search needs
 
--- src/walk.rt:216:24
 enum-told-5 : tie.Need-enum-told-5
-enum-told-5 c = ?
+enum-told-5 c = search needs
 
--- src/walk.rt:216:24
 colon-requires : tie.Need-colon-requires
-colon-requires c κs = ?
+colon-requires c κs = search needs
 
--- src/walk.rt:217:25
 enum-told-6 : tie.Need-enum-told-6
-enum-told-6 c = ?
+enum-told-6 c = search needs
 
--- src/walk.rt:217:25
 behind-requires : tie.Need-behind-requires
-behind-requires c κs = ?
+behind-requires c κs = search needs
 
--- src/walk.rt:207:1
 returns : tie.Need-returns
-returns c = ?
+unfolding step
+returns c = 
+    let s = c .before .before .before .before in
+    rw (c .before .enum-told .given .1, walk-at _ _ (s .pre .0) W.value _, s .pre .1) (c .begin .ensures)
 
--- src/walk.rt:207:1
 returns-2 : tie.Need-returns-2
-returns-2 c = ?
+returns-2 c = rw (c .before .enum-told2 .given .1) (c .first-element .ensures)
 
--- src/walk.rt:207:1
 returns-3 : tie.Need-returns-3
-returns-3 c = ?
+returns-3 c = rw (c .before .enum-told3 .given .1) (c .first-name .ensures)
 
--- src/walk.rt:207:1
 returns-4 : tie.Need-returns-4
-returns-4 c = ?
+returns-4 c = rw (c .before .enum-told4 .given .1) (c .name .ensures)
 
--- src/walk.rt:207:1
 returns-5 : tie.Need-returns-5
-returns-5 c = ?
+returns-5 c = rw (c .before .enum-told5 .given .1) (c .colon .ensures)
 
--- src/walk.rt:207:1
 returns-6 : tie.Need-returns-6
-returns-6 c = ?
+returns-6 c = rw (c .before .enum-told6 .given .1) (c .behind .ensures)
 
 pub turn-at-spec : {M : Type 1} → statement M
 turn-at-spec =
