@@ -74,22 +74,13 @@ module _ (n : InNumber) (b : ℕ) where
   unfolding numberStop
   number-goes e s = rw (e, numberStop)
 
-  pub number-past : onward n b ≡ Over → mayEnd n ≡ true → (s : List ℕ) → numberStop n (b ∷ s) ≡ past (b ∷ s)
+  pub number-ends : (t : Bool) → onward n b ≡ Over → mayEnd n ≡ t → (s : List ℕ) → numberStop n (b ∷ s) ≡ cond t (past (b ∷ s)) (torn (b ∷ s))
   unfolding numberStop
-  number-past e g s = rw (e, numberStop, g)
+  number-ends t e g s = rw (e, numberStop, g)
 
-  pub number-torn : onward n b ≡ Over → mayEnd n ≡ false → (s : List ℕ) → numberStop n (b ∷ s) ≡ torn (b ∷ s)
-  unfolding numberStop
-  number-torn e g s = rw (e, numberStop, g)
-
-module _ (n : InNumber) where
-  pub number-whole : mayEnd n ≡ true → numberStop n [] ≡ past []
-  unfolding numberStop
-  number-whole g = rw g
-
-  pub number-cut : mayEnd n ≡ false → numberStop n [] ≡ torn []
-  unfolding numberStop
-  number-cut g = rw g
+pub number-none : (n : InNumber) (t : Bool) → mayEnd n ≡ t → numberStop n [] ≡ cond t (past []) (torn [])
+unfolding numberStop
+number-none n t g = rw g
 
 -- ---- words
 module _ (word : List ℕ) (k : ℕ) where

@@ -1,6 +1,6 @@
 -- The walk over a part at a time, over blanks, and over one byte.
 use Prim.Native.Nat.{ℕ, suc, _<_}
-use mathlib.Core.Path.{_≡_, refl, ap, _∙_}
+use mathlib.Core.Path.{_≡_, refl, sym, ap, _∙_}
 use mathlib.Core.List.{List, [], _∷_}
 use mathlib.Core.Bool.{Bool, true, false}
 use lib.ListN.{length, getD, drop}
@@ -29,8 +29,10 @@ use Rattle.json.specs.declared.byte.Part.{Part}
 use Rattle.json.specs.declared.byte.Part.the-variants.{Past, Torn}
 use Rattle.json.specs.declared.walk.Mode.{Mode}
 use Rattle.json.specs.declared.walk.Mode.the-variants.{Value, FirstElement, FirstName, Name, Colon, Behind}
-use Rattle.json.proofs.Moves.{Passes, blank-goes, blank-stays, blanked-none}
-use Rattle.json.proofs.Parts.{string-goes, string-closes, string-refuses, string-none, number-goes, number-past, number-torn, number-whole, number-cut}
+use Rattle.json.specs.declared.walk.Walk.{Walk}
+use Rattle.json.specs.declared.walk.Turn.the-variants.{Go}
+use Rattle.json.proofs.Moves.{Passes, passes-none, passes-on, blank-goes, blank-stays, blanked-none}
+use Rattle.json.proofs.Parts.{string-goes, string-closes, string-refuses, string-none, number-goes, number-ends, number-none}
 
 pub walk-none : (m : W.Mode) (k : List Frame) → walk m k [] ≡ refused2 []
 unfolding walk
@@ -82,15 +84,15 @@ unfolding step
 number-walk n k [] = by (mayEnd n) refl
   where
     by : (t : Bool) → mayEnd n ≡ t → walk (W.inNumber n) k [] ≡ stopped (numberStop n []) (walk W.behind k)
-    by true g = rw (number-whole n g, walk-none, walk-none)
-    by false g = rw (number-cut n g, walk-none)
+    by true g = rw (number-none n true g, walk-none, walk-none)
+    by false g = rw (number-none n false g, walk-none)
 number-walk n k (b ∷ s) = by (onward n b) refl (mayEnd n) refl (λ m. number-walk m k s)
   where
     by : (x : DigitStep) → onward n b ≡ x → (t : Bool) → mayEnd n ≡ t → ((m : InNumber) → walk (W.inNumber m) k s ≡ stopped (numberStop m s) (walk W.behind k))
         → walk (W.inNumber n) k (b ∷ s) ≡ stopped (numberStop n (b ∷ s)) (walk W.behind k)
     by (Onward m) e t g more = rw (walk-one, e, number-goes n b e s) (more m)
-    by Over e true g more = rw (walk-one, e, g, number-past n b e g s, walk-one)
-    by Over e false g more = rw (walk-one, e, g, number-torn n b e g s)
+    by Over e true g more = rw (walk-one, e, g, number-ends n b true e g s, walk-one)
+    by Over e false g more = rw (walk-one, e, g, number-ends n b false e g s)
 
 -- a test that picks both the byte's step and where the part ends
 choice : (b : ℕ) (s : List ℕ) (k : List Frame) (t : Bool) (x y : Unit {0} → Next) (v w : Unit {0} → Stop)
@@ -118,7 +120,7 @@ plain-walk b s k n₁ n₂ n₃ =
     by : (x : DigitStep) → onward Start b ≡ x
         → onward-from b s (W.digits (onward Start b) k) ≡ stopped (numberStop Start (b ∷ s)) (walk W.behind k)
     by (Onward m) e = rw (e, number-goes Start b e s) (number-walk m k s)
-    by Over e = rw (e, number-torn Start b e refl s)
+    by Over e = rw (e, number-ends Start b false e refl s)
 
 pub plain-at : (text : List ℕ) (at : ℕ) → at < length text → (k : List Frame)
     → (getD text at 0 ≡ 34 → ⊥) → (getD text at 0 ≡ 123 → ⊥) → (getD text at 0 ≡ 91 → ⊥)
@@ -136,18 +138,18 @@ module _ (m : W.Mode) (stays : (b : ℕ) (k : List Frame) → isBlank b ≡ true
       by false e more = rw (blank-stays b e s)
 
   -- the code moves on behind blanks
-  pub blanks-passed : {g : List ℕ → Walked} {text : List ℕ} {at i r : ℕ} (k : List Frame) → Passes (walk m k) g text at i → Moves blanked text i r → Passes (walk m k) g text at r
+  blanks-passed : {g : List ℕ → Walked} {text : List ℕ} {at i r : ℕ} (k : List Frame) → Passes (walk m k) g text at i → Moves blanked text i r → Passes (walk m k) g text at r
   blanks-passed {text = text} {i = i} k p v = record {
     same = ap (walk m k) (v .lands) ∙ blanks-walk k (drop i text) ∙ p .same;
     ahead = omega (arith, p .ahead, v .ahead);
     inside = λ h. v .inside (p .inside h)
   }
 
-pub top-stays : (b : ℕ) (k : List Frame) → isBlank b ≡ true → step W.top b k ≡ go W.top k
+top-stays : (b : ℕ) (k : List Frame) → isBlank b ≡ true → step W.top b k ≡ go W.top k
 unfolding step
 top-stays b k e = rw e
 
-pub mode-stays : (mode : Mode) (b : ℕ) (k : List Frame) → isBlank b ≡ true → step (modeOf mode) b k ≡ go (modeOf mode) k
+mode-stays : (mode : Mode) (b : ℕ) (k : List Frame) → isBlank b ≡ true → step (modeOf mode) b k ≡ go (modeOf mode) k
 unfolding step
 mode-stays Value b k e = rw e
 mode-stays FirstElement b k e = rw e
@@ -163,10 +165,21 @@ pub record Inside (text : List ℕ) (start at : ℕ) (mode : Mode) (d n : ℕ) :
   pub passes : Passes (walk (modeOf mode) (frames d n)) (walk W.firstName (anObject ∷ [])) text start at
   pub opens : Open d n
 
-pub inside-blanks : {text : List ℕ} {start at r : ℕ} {mode : Mode} {d n : ℕ} → Inside text start at mode d n → Moves blanked text at r → Inside text start r mode d n
-inside-blanks {mode = mode} {d = d} {n = n} i v = record { passes = blanks-passed (modeOf mode) (mode-stays mode) (frames d n) (i .passes) v; opens = i .opens }
+-- The rest behind the blanks at `at`, which end at `i`, is walked as the code's turn there says.
+module _ {text : List ℕ} {start at i : ℕ} {mode : Mode} {d n : ℕ} (stands : Inside text start at mode d n) (v : Moves blanked text at i) where
+  pub inside-blanks : Passes (walk (modeOf mode) (frames d n)) (walk W.firstName (anObject ∷ [])) text start i
+  inside-blanks = blanks-passed (modeOf mode) (mode-stays mode) (frames d n) (stands .passes) v
+
+  pub inside-goes : (t : Walk) → Turned text i (walk (modeOf mode) (frames d n) (drop i text)) (Go t) → Inside text start (t .at) (t .mode) (t .depth) (t .kinds)
+  inside-goes t h = record { passes = passes-on inside-blanks (h .0) (h .1) (h .2); opens = h .3 }
+
+  pub inside-ends : {w : Walked} → walk (modeOf mode) (frames d n) (drop i text) ≡ w → walk W.firstName (anObject ∷ []) (drop start text) ≡ w
+  inside-ends e = sym (inside-blanks .same) ∙ e
 
 -- ---- the text's own brace
+pub top-blanks : {text : List ℕ} {r : ℕ} → Moves blanked text 0 r → Passes (walk W.top []) (walk W.top []) text 0 r
+top-blanks {text} v = blanks-passed W.top top-stays [] (passes-none (walk W.top []) text 0) v
+
 module _ (b : ℕ) (blank : isBlank b ≡ false) where
   pub top-refuses : (b ≡ 123 → ⊥) → (s : List ℕ) → walk W.top [] (b ∷ s) ≡ refused2 (b ∷ s)
   unfolding step

@@ -1,14 +1,14 @@
 use borrow.Author.Needs.{needs}
 use Prim.Native.Nat.{_-_, _<_}
 use mathlib.Core.Path.{_≡_}
-use mathlib.Core.Bool.{true, false≢true}
+use mathlib.Core.Bool.{true, false, false≢true}
 use native.Mathlib.Omega.{arith}
 use lib.ListN.{length}
 use Rattle.json.specs.Number.{mayEnd}
 use Rattle.json.specs.Part.{past, torn, numberStop}
 use Rattle.json.specs.declared.number.InNumber.the-variants.{Start}
 use Rattle.json.proofs.Moves.{Passes, passes-none, passes-one, answers-here, answers-end}
-use Rattle.json.proofs.Parts.{number-goes, number-past, number-torn, number-whole, number-cut}
+use Rattle.json.proofs.Parts.{number-goes, number-ends, number-none}
 use Rattle.json.proofs.number.number_end.Statement.{statement}
 use Rattle.json.proofs.number.number_end.Tie as tie
 
@@ -50,12 +50,12 @@ may-end-requires c κs = search needs
 returns : tie.Need-returns Inv-loop μ-loop
 returns c = 
     let l = c .before .before .before .before .before .before in
-    (answers-here (l .before .loop .inv .0) (l .loop-test .taken) past (number-past _ _ (cc) (cc)), omega (arith, l .before .loop .inv .1 (cc)), omega arith)
+    (answers-here (l .before .loop .inv .0) (l .loop-test .taken) past (number-ends _ _ true (cc) (cc)), omega (arith, l .before .loop .inv .1 (cc)), omega arith)
 
 returns-2 : tie.Need-returns-2 Inv-loop μ-loop
 returns-2 c = 
     let l = c .before .before .before .before .before .before in
-    (answers-here (l .before .loop .inv .0) (l .loop-test .taken) torn (number-torn _ _ (cc) (cc)), omega arith)
+    (answers-here (l .before .loop .inv .0) (l .loop-test .taken) torn (number-ends _ _ false (cc) (cc)), omega arith)
 
 may-end-requires-2 : tie.Need-may-end-requires-2 Inv-loop μ-loop
 may-end-requires-2 c κs = search needs
@@ -63,12 +63,12 @@ may-end-requires-2 c κs = search needs
 returns-3 : tie.Need-returns-3 Inv-loop μ-loop
 returns-3 c = 
     let l = c .before .before in
-    (answers-end (l .before .loop .inv .0) past (l .loop-test .left) (number-whole _ (cc)), omega (arith, l .before .loop .inv .1 (cc)), omega arith)
+    (answers-end (l .before .loop .inv .0) past (l .loop-test .left) (number-none _ true (cc)), omega (arith, l .before .loop .inv .1 (cc)), omega arith)
 
 returns-4 : tie.Need-returns-4 Inv-loop μ-loop
 returns-4 c = 
     let l = c .before .before in
-    (answers-end (l .before .loop .inv .0) torn (l .loop-test .left) (number-cut _ (cc)), omega arith)
+    (answers-end (l .before .loop .inv .0) torn (l .loop-test .left) (number-none _ false (cc)), omega arith)
 
 pub number-end-spec : {M : Type 1} → statement M
 number-end-spec =

@@ -1,9 +1,7 @@
-use mathlib.Core.List.{[]}
 use native.Mathlib.Omega.{arith}
 use Rattle.json.specs.Walk as W
-use Rattle.json.specs.Walk.{walk}
-use Rattle.json.proofs.Moves.{passes-none, passes-one, answers-here, answers-end, no-blank}
-use Rattle.json.proofs.Walks.{walk-none, blanks-passed, top-stays, top-refuses, top-opens}
+use Rattle.json.proofs.Moves.{passes-one, answers-here, answers-end, no-blank}
+use Rattle.json.proofs.Walks.{walk-none, top-blanks, top-refuses, top-opens}
 use borrow.Author.Needs.{needs}
 use Rattle.json.proofs.walk.first_object.Statement.{statement}
 use Rattle.json.proofs.walk.first_object.Tie as tie
@@ -12,7 +10,7 @@ blanks-end-requires : tie.Need-blanks-end-requires
 blanks-end-requires c κs = search needs
 
 returns : tie.Need-returns
-returns c = (answers-end (blanks-passed W.top top-stays [] (passes-none (walk W.top []) _ 0) (c .before .blanks-end .ensures)) W.refused2 (c .if1 .taken) (walk-none _ _), omega arith)
+returns c = (answers-end (top-blanks (c .before .blanks-end .ensures)) W.refused2 (c .if1 .taken) (walk-none _ _), omega arith)
 
 shared-slice-read-if2 : tie.Need-shared-slice-read-if2
 shared-slice-read-if2 c = search needs
@@ -20,7 +18,8 @@ shared-slice-read-if2 c = search needs
 returns-2 : tie.Need-returns-2
 returns-2 c = 
     let v = c .before .before .before .blanks-end .ensures in
-    (answers-here (blanks-passed W.top top-stays [] (passes-none (walk W.top []) _ 0) (c .before .before .before .blanks-end .ensures)) (c .before .before .if1 .left) W.refused2 (top-refuses _ (no-blank v (c .before .before .if1 .left)) (c .if2 .taken)), omega arith)
+    let h = c .before .before .if1 .left in
+    (answers-here (top-blanks v) h W.refused2 (top-refuses _ (no-blank v h) (c .if2 .taken)), omega arith)
 
 add-inside-end : tie.Need-add-inside-end
 add-inside-end c = search needs
@@ -32,7 +31,7 @@ returns-3 : tie.Need-returns-3
 returns-3 c = 
     let v = c .before .before .before .before .blanks-end .ensures in
     let h = c .before .before .before .if1 .left in
-    rw (passes-one (blanks-passed W.top top-stays [] (passes-none (walk W.top []) _ 0) (c .before .before .before .before .blanks-end .ensures)) h (top-opens _ (no-blank v h) (c .before .if2 .left)) .same) at (c .inside-end .ensures)
+    rw (passes-one (top-blanks v) h (top-opens _ (no-blank v h) (c .before .if2 .left)) .same) at (c .inside-end .ensures)
 
 pub first-object-spec : {M : Type 1} → statement M
 first-object-spec =
