@@ -1,0 +1,46 @@
+-- The contracts allow one answer each.
+use Prim.Native.Nat.{ℕ, _≤_}
+use mathlib.Core.Path.{_≡_, sym, ap, _∙_}
+use mathlib.Core.List.{List}
+use lib.ListN.{length, drop, length-drop}
+use native.Mathlib.Decide.{decLe}
+use native.Mathlib.Omega.{arith}
+use Rattle.json.specs.Tree.{Place, Moves}
+use Rattle.json.specs.Part.{Stop, past, torn, Stops}
+use Rattle.json.specs.Walk.{Walked, end, refused2, refused3}
+use Rattle.json.specs.Turn.{Tells}
+use Rattle.json.specs.declared.byte.Part.{Part}
+use Rattle.json.specs.declared.byte.Part.the-variants.{Past, Torn}
+use Rattle.json.specs.declared.walk.End.{End}
+use Rattle.json.specs.declared.walk.End.the-variants.{At, Bad, Deep}
+
+-- a place of the text is one number
+place-one : (text : List ℕ) (a b : ℕ) → a ≤ length text → b ≤ length text → drop a text ≡ drop b text → a ≡ b
+place-one text a b h l e = omega (arith, length-drop a text, length-drop b text, ap length e)
+
+-- first_object and one_object
+pub tells-one : (text : List ℕ) (w : Walked) (r q : End) → Tells text w r → Tells text w q → r ≡ q
+tells-one text w (At e) (At f) h k = ap At (place-one text e f (h .1) (k .1) (cc))
+tells-one text w (At e) (Bad p) h k = cc
+tells-one text w (At e) (Deep p) h k = cc
+tells-one text w (Bad p) (At e) h k = cc
+tells-one text w (Bad p) (Bad q) h k = ap Bad (place-one text p q (h .1) (k .1) (cc))
+tells-one text w (Bad p) (Deep q) h k = cc
+tells-one text w (Deep p) (At e) h k = cc
+tells-one text w (Deep p) (Bad q) h k = cc
+tells-one text w (Deep p) (Deep q) h k = ap Deep (place-one text p q (h .1) (k .1) (cc))
+
+-- string_end, number_end and word_end
+pub stops-one : (text : List ℕ) (at : ℕ) (w : Stop) (r q : Part) → Stops text at w r → Stops text at w q → r ≡ q
+stops-one text at w (Past e) (Past f) h k = ap Past (place-one text e f (h .2) (k .2) (cc))
+stops-one text at w (Past e) (Torn p) h k = cc
+stops-one text at w (Torn p) (Past e) h k = cc
+stops-one text at w (Torn p) (Torn q) h k = ap Torn (place-one text p q (h .1) (k .1) (cc))
+
+-- blanks_end
+pub moves-one : (f : Place → Place) (text : List ℕ) (at r q : ℕ) → Moves f text at r → Moves f text at q → r ≡ q
+moves-one f text at r q h k = by (decLe at (length text))
+  where
+    by : Dec (at ≤ length text) → r ≡ q
+    by (yes l) = place-one text r q (h .inside l) (k .inside l) (h .lands ∙ sym (k .lands))
+    by (no n) = h .outside (omega arith) ∙ sym (k .outside (omega arith))
