@@ -1,6 +1,7 @@
 // Bytes by their kinds.
 ghost use mathlib.Core.Path.{_≡_};
-ghost use lib.ListN.{drop};
+ghost use Prim.Native.Nat.{_≤_};
+ghost use lib.ListN.{length, drop};
 ghost use Rattle.json.specs.Byte.{isBlank, isHex, isD, is8ToB, isCToF, within as between, blanked};
 ghost use Rattle.json.specs.Part.{wordStop, Stops};
 ghost use Rattle.json.specs.Tree.{Moves};
@@ -149,6 +150,7 @@ pub fn blanks_end(text: &[u8], at: usize) -> usize
 
 // The place behind the letters of `word`, which begin at `at`.
 pub fn word_end(text: &[u8], at: usize, word: &[u8]) -> Part
+    requires { ⌜ at ≤ length (now text) ⌝ }
     ensures { λ r. ⌜ Stops (now (text .entry)) at (wordStop (now (word .entry)) (drop at (now (text .entry)))) r ⌝ }
 {
     let mut i = at;
