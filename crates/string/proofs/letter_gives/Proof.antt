@@ -1,46 +1,33 @@
 use borrow.Author.Needs.{needs}
 use Rattle.string.proofs.letter_gives.Statement.{statement}
 use Rattle.string.proofs.letter_gives.Tie as tie
-use Rattle.string.proofs.letter_gives.Reads as reads
-use Rattle.string.proofs.letter_gives.Lts as lts
-use Rattle.string.proofs.no_byte.Reads as no-byte-reads
-use Rattle.string.proofs.one_byte.Reads as one-byte-reads
 
--- src/lib.rt:160:23
 enum-known-l : tie.Need-enum-known-l
 enum-known-l c = search needs
 
--- src/lib.rt:160:29
 one-byte-requires : tie.Need-one-byte-requires
 one-byte-requires c κs = search needs
 
--- src/lib.rt:161:28
 enum-told : tie.Need-enum-told
 enum-told c = search needs
 
--- src/lib.rt:161:28
 no-byte-requires : tie.Need-no-byte-requires
 no-byte-requires c κs = search needs
 
--- src/lib.rt:162:29
 enum-told-2 : tie.Need-enum-told-2
 enum-told-2 c = search needs
 
--- src/lib.rt:162:29
 no-byte-requires-2 : tie.Need-no-byte-requires-2
 no-byte-requires-2 c κs = search needs
 
--- src/lib.rt:156:1
 returns : tie.Need-returns
-returns c = ?
+returns c = (rw (c .before .before .l .given .1) (c .one-byte .ensures .0), c .one-byte .ensures .1)
 
--- src/lib.rt:156:1
 returns-2 : tie.Need-returns-2
-returns-2 c = ?
+returns-2 c = (rw (c .before .enum-told .given .1) (c .no-byte .ensures .0), c .no-byte .ensures .1)
 
--- src/lib.rt:156:1
 returns-3 : tie.Need-returns-3
-returns-3 c = ?
+returns-3 c = (rw (c .before .enum-told2 .given .1) (c .no-byte2 .ensures .0), c .no-byte2 .ensures .1)
 
 pub letter-gives-spec : {M : Type 1} → statement M
 letter-gives-spec =
