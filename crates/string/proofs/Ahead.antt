@@ -1,12 +1,13 @@
 -- What a cursor has ahead, and how a byte of the text takes it on.
 use Prim.Native.Nat.{ℕ, suc, _+_, _<_, _≤_}
 use mathlib.Core.Path.{_≡_, refl, sym, ap, subst, _∙_}
-use mathlib.Core.Bool.{true, false}
+use mathlib.Core.Bool.{true, false, not}
 use mathlib.Core.List.{List, [], _∷_, _++_, tail}
 use lib.ListN.{length, getD, take, drop, length-take, drop-of-length-le}
 use lib.Seq.{drop-cons, getD-take, length-take-le}
 use native.Mathlib.Numerals.{add-one}
 use native.Mathlib.Omega.{arith}
+use borrow.Author.Tests.{not-true, not-false}
 use Rattle.json.specs.String.{chars, after, given, gather}
 use Rattle.moving.specs.Read.{decoded}
 use Rattle.string.specs.Strings.{bytesOf, ahead, Sound, Gives}
@@ -120,3 +121,14 @@ module _ (text : List ℕ) (c : Cursor) where
       bytes = step ∙ ap (λ l. l ++ rest text n w (i + 1)) (one-given (o .bytes) (o .n) 0 pos (omega arith));
       sound = record { few = few; small = small }
     }
+
+-- ---- what `next_byte` gives
+module _ {text : List ℕ} {c : Cursor} {r : NextByte} (g : Gives text c r) where
+  pub gives-one : not (r .some) ≡ false → ahead text c ≡ r .byte ∷ ahead text (r .cursor)
+  gives-one e = rw (not-false (r .some) e) at (g .bytes)
+
+  pub gives-none : not (r .some) ≡ true → ahead text c ≡ []
+  gives-none e = rw (not-true (r .some) e) at (g .bytes)
+
+  pub ahead-falls : not (r .some) ≡ false → length (ahead text (r .cursor)) < length (ahead text c)
+  ahead-falls e = omega (arith, ap length (gives-one e))

@@ -1,51 +1,62 @@
+use native.Mathlib.Omega.{arith}
+use borrow.Author.Needs.{needs}
+use mathlib.Core.Path.{_≡_, ap, refl}
+use lib.ListN.{length, drop}
+use Rattle.moving.specs.Read.{decoded}
+use Rattle.string.specs.Strings.{ahead}
+use Rattle.string.proofs.Ahead.{ahead-falls}
+use Rattle.string.proofs.Turns.{Lays, lay-behind, lay-ends, lay-room, lay-on, lays-none}
+use denote.Ref.{now}
+use lib.Seq.{sets}
+use Prim.Native.Nat.{_+_}
 use Rattle.string.proofs.copy.Statement.{statement}
 use Rattle.string.proofs.copy.Tie as tie
-use Rattle.string.proofs.copy.Reads as reads
-use Rattle.string.proofs.copy.Lts as lts
-use Rattle.string.proofs.next_byte.Reads as next-byte-reads
-use Rattle.string.proofs.start.Reads as start-reads
 
 abbrev Inv-loop : tie.InvT-loop
-Inv-loop text quote buffer₀ to c₀ i₀ buffer c i = ?
+Inv-loop text quote buffer₀ to c₀ i₀ buffer c i = Lays text buffer₀ to (decoded (drop quote text)) buffer c i
 
 abbrev μ-loop : tie.MeasureT-loop
-μ-loop text quote buffer₀ to c₀ i₀ buffer c i = ?
+μ-loop text quote buffer₀ to c₀ i₀ buffer c i = length (ahead text c)
 
--- src/lib.rt:344:9
 start-requires : tie.Need-start-requires Inv-loop μ-loop
-start-requires c κs = ?
+start-requires c κs = search needs
 
--- src/lib.rt:346:5
 loop-holds : tie.Need-loop-holds Inv-loop μ-loop
-loop-holds c = ?
+loop-holds c = lays-none _ (c .start .ensures .1) (c .start .ensures .0)
 
--- src/lib.rt:347:13
 next-byte-requires : tie.Need-next-byte-requires Inv-loop μ-loop
-next-byte-requires c κs = ?
+next-byte-requires c κs = c .loop .inv .sound
 
--- src/lib.rt:349:13
 same-length : tie.Need-same-length Inv-loop μ-loop
-same-length c = ?
+same-length c = c .before .before .before .loop .inv .sized
 
--- src/lib.rt:349:13
 returns : tie.Need-returns Inv-loop μ-loop
-returns c = ?
+returns c =
+    let n = c .before .before in
+    (lay-behind (n .next-byte .ensures) (n .before .loop .inv) (c .if1 .taken), lay-ends (n .next-byte .ensures) (n .before .loop .inv) (c .if1 .taken))
 
--- src/lib.rt:351:9
 slice-write-buffer : tie.Need-slice-write-buffer Inv-loop μ-loop
-slice-write-buffer c = ?
+slice-write-buffer c =
+    let n = c .before .before in
+    omega (arith, lay-room (n .next-byte .ensures) (n .before .loop .inv) (c .if1 .left), n .before .loop .inv .sized, n .before .before .before .before .before .pre)
 
--- src/lib.rt:353:9
 add-i : tie.Need-add-i Inv-loop μ-loop
-add-i c = ?
+add-i c =
+    let t = c .before in
+    let n = t .before .before in
+    let s = n .before .before .before .before .before in
+    omega (arith, lay-room (n .next-byte .ensures) (n .before .loop .inv) (t .if1 .left), s .pre, s .good .1 .1 .0 .0)
 
--- src/lib.rt:346:5
 loop-less : tie.Need-loop-less Inv-loop μ-loop
-loop-less c = ?
+loop-less c =
+    let t = c .before in
+    ahead-falls (t .before .before .next-byte .ensures) (t .if1 .left)
 
--- src/lib.rt:346:5
 loop-again : tie.Need-loop-again Inv-loop μ-loop
-loop-again c = ?
+loop-again c =
+    let t = c .before in
+    let n = t .before .before in
+    lay-on (n .next-byte .ensures) (n .before .loop .inv) (t .if1 .left)
 
 pub copy-spec : {M : Type 1} → statement M
 copy-spec =

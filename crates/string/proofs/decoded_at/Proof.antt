@@ -1,47 +1,52 @@
+use native.Mathlib.Omega.{arith}
+use borrow.Author.Needs.{needs}
+use mathlib.Core.Path.{_≡_, ap}
+use lib.ListN.{length, drop, getD}
+use Rattle.moving.specs.Read.{decoded}
+use Rattle.string.specs.Strings.{ahead}
+use Rattle.string.proofs.Ahead.{ahead-falls}
+use Rattle.string.proofs.Turns.{Seeks, place-ends, place-here, place-on, seeks-first}
 use Rattle.string.proofs.decoded_at.Statement.{statement}
 use Rattle.string.proofs.decoded_at.Tie as tie
-use Rattle.string.proofs.decoded_at.Reads as reads
-use Rattle.string.proofs.decoded_at.Lts as lts
-use Rattle.string.proofs.next_byte.Reads as next-byte-reads
-use Rattle.string.proofs.start.Reads as start-reads
 
 abbrev Inv-loop : tie.InvT-loop
-Inv-loop text quote k c₀ i₀ c i = ?
+Inv-loop text quote k c₀ i₀ c i = Seeks text k (getD (decoded (drop quote text)) k 0) c i
 
 abbrev μ-loop : tie.MeasureT-loop
-μ-loop text quote k c₀ i₀ c i = ?
+μ-loop text quote k c₀ i₀ c i = length (ahead text c)
 
--- src/lib.rt:318:9
 start-requires : tie.Need-start-requires Inv-loop μ-loop
-start-requires c κs = ?
+start-requires c κs = search needs
 
--- src/lib.rt:320:5
 loop-holds : tie.Need-loop-holds Inv-loop μ-loop
-loop-holds c = ?
+loop-holds c = seeks-first _ (c .start .ensures .1) (c .start .ensures .0)
 
--- src/lib.rt:321:13
 next-byte-requires : tie.Need-next-byte-requires Inv-loop μ-loop
-next-byte-requires c κs = ?
+next-byte-requires c κs = c .loop .inv .sound
 
--- src/lib.rt:323:13
 returns : tie.Need-returns Inv-loop μ-loop
-returns c = ?
+returns c =
+    let n = c .before .before in
+    place-ends (n .next-byte .ensures) (n .before .loop .inv) (c .if1 .taken)
 
--- src/lib.rt:326:13
 returns-2 : tie.Need-returns-2 Inv-loop μ-loop
-returns-2 c = ?
+returns-2 c =
+    let n = c .before .before .before in
+    place-here (n .next-byte .ensures) (n .before .loop .inv) (c .before .if1 .left) (c .if2 .taken)
 
--- src/lib.rt:329:9
 add-i : tie.Need-add-i Inv-loop μ-loop
-add-i c = ?
+add-i c = omega (arith, c .before .before .before .before .before .loop .inv .inside)
 
--- src/lib.rt:320:5
 loop-less : tie.Need-loop-less Inv-loop μ-loop
-loop-less c = ?
+loop-less c =
+    let t = c .before .before in
+    ahead-falls (t .before .before .next-byte .ensures) (t .if1 .left)
 
--- src/lib.rt:320:5
 loop-again : tie.Need-loop-again Inv-loop μ-loop
-loop-again c = ?
+loop-again c =
+    let t = c .before .before in
+    let n = t .before .before in
+    place-on (n .next-byte .ensures) (n .before .loop .inv) (t .if1 .left) (c .before .if2 .left)
 
 pub decoded-at-spec : {M : Type 1} → statement M
 decoded-at-spec =

@@ -1,43 +1,53 @@
+use native.Mathlib.Omega.{arith}
+use borrow.Author.Needs.{needs}
+use mathlib.Core.Path.{_≡_, ap}
+use lib.ListN.{length, drop}
+use Rattle.moving.specs.Read.{decoded}
+use Rattle.string.specs.Strings.{ahead}
+use Rattle.string.proofs.Ahead.{ahead-falls}
+use Rattle.string.proofs.Lengths.{decoded-short}
+use Rattle.string.proofs.Turns.{Counts, count-ends, count-on, counts-none}
+use denote.Ref.{now}
 use Rattle.string.proofs.decoded_length.Statement.{statement}
 use Rattle.string.proofs.decoded_length.Tie as tie
-use Rattle.string.proofs.decoded_length.Reads as reads
-use Rattle.string.proofs.decoded_length.Lts as lts
-use Rattle.string.proofs.next_byte.Reads as next-byte-reads
-use Rattle.string.proofs.start.Reads as start-reads
 
 abbrev Inv-loop : tie.InvT-loop
-Inv-loop text quote c₀ n₀ c n = ?
+Inv-loop text quote c₀ n₀ c n = Counts text (length (decoded (drop quote text))) c n
 
 abbrev μ-loop : tie.MeasureT-loop
-μ-loop text quote c₀ n₀ c n = ?
+μ-loop text quote c₀ n₀ c n = length (ahead text c)
 
--- src/lib.rt:302:9
 start-requires : tie.Need-start-requires Inv-loop μ-loop
-start-requires c κs = ?
+start-requires c κs = search needs
 
--- src/lib.rt:304:5
 loop-holds : tie.Need-loop-holds Inv-loop μ-loop
-loop-holds c = ?
+loop-holds c = counts-none (c .start .ensures .1) (c .start .ensures .0)
 
--- src/lib.rt:305:13
 next-byte-requires : tie.Need-next-byte-requires Inv-loop μ-loop
-next-byte-requires c κs = ?
+next-byte-requires c κs = c .loop .inv .sound
 
--- src/lib.rt:307:13
 returns : tie.Need-returns Inv-loop μ-loop
-returns c = ?
+returns c =
+    let n = c .before .before in
+    count-ends (n .next-byte .ensures) (n .before .loop .inv) (c .if1 .taken)
 
--- src/lib.rt:310:9
 add-n : tie.Need-add-n Inv-loop μ-loop
-add-n c = ?
+add-n c =
+    let t = c .before in
+    let n = t .before .before in
+    let s = n .before .before .before .before in
+    omega (arith, count-on (n .next-byte .ensures) (n .before .loop .inv) (t .if1 .left) .answer, decoded-short (now (s .args .text)) (s .args .quote))
 
--- src/lib.rt:304:5
 loop-less : tie.Need-loop-less Inv-loop μ-loop
-loop-less c = ?
+loop-less c =
+    let t = c .before in
+    ahead-falls (t .before .before .next-byte .ensures) (t .if1 .left)
 
--- src/lib.rt:304:5
 loop-again : tie.Need-loop-again Inv-loop μ-loop
-loop-again c = ?
+loop-again c =
+    let t = c .before in
+    let n = t .before .before in
+    count-on (n .next-byte .ensures) (n .before .loop .inv) (t .if1 .left)
 
 pub decoded-length-spec : {M : Type 1} → statement M
 decoded-length-spec =

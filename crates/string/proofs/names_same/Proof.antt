@@ -1,55 +1,60 @@
+use borrow.Author.Needs.{needs}
+use mathlib.Core.Path.{_≡_, ap, _∙_}
+use lib.ListN.{length, drop}
+use Rattle.moving.specs.Read.{decoded}
+use Rattle.string.specs.Strings.{same, ahead}
+use Rattle.string.proofs.Ahead.{ahead-falls}
+use Rattle.string.proofs.Turns.{Beside, both-end, other-ends, both-differ, both-on}
 use Rattle.string.proofs.names_same.Statement.{statement}
 use Rattle.string.proofs.names_same.Tie as tie
-use Rattle.string.proofs.names_same.Reads as reads
-use Rattle.string.proofs.names_same.Lts as lts
-use Rattle.string.proofs.next_byte.Reads as next-byte-reads
-use Rattle.string.proofs.start.Reads as start-reads
 
 abbrev Inv-loop : tie.InvT-loop
-Inv-loop text p q c₀ d₀ c d = ?
+Inv-loop text p q c₀ d₀ c d = Beside text (same (decoded (drop p text)) (decoded (drop q text))) c d
 
 abbrev μ-loop : tie.MeasureT-loop
-μ-loop text p q c₀ d₀ c d = ?
+μ-loop text p q c₀ d₀ c d = length (ahead text c)
 
--- src/lib.rt:279:9
 start-requires : tie.Need-start-requires Inv-loop μ-loop
-start-requires c κs = ?
+start-requires c κs = search needs
 
--- src/lib.rt:280:9
 start-requires-2 : tie.Need-start-requires-2 Inv-loop μ-loop
-start-requires-2 c κs = ?
+start-requires-2 c κs = search needs
 
--- src/lib.rt:281:5
 loop-holds : tie.Need-loop-holds Inv-loop μ-loop
-loop-holds c = ?
+loop-holds c = record { sound = c .before .start .ensures .1; other = c .start2 .ensures .1; answer = cc }
 
--- src/lib.rt:282:13
 next-byte-requires : tie.Need-next-byte-requires Inv-loop μ-loop
-next-byte-requires c κs = ?
+next-byte-requires c κs = c .loop .inv .sound
 
--- src/lib.rt:283:13
 next-byte-requires-2 : tie.Need-next-byte-requires-2 Inv-loop μ-loop
-next-byte-requires-2 c κs = ?
+next-byte-requires-2 c κs = c .before .loop .inv .other
 
--- src/lib.rt:285:13
 returns : tie.Need-returns Inv-loop μ-loop
-returns c = ?
+returns c =
+    let n = c .before .before .before in
+    both-end (n .before .next-byte .ensures) (n .next-byte2 .ensures) (n .before .before .loop .inv) (c .before .if1 .taken)
 
--- src/lib.rt:288:13
 returns-2 : tie.Need-returns-2 Inv-loop μ-loop
-returns-2 c = ?
+returns-2 c =
+    let n = c .before .before .before .before in
+    other-ends (n .before .next-byte .ensures) (n .next-byte2 .ensures) (n .before .before .loop .inv) (c .before .before .if1 .left) (c .if2 .taken)
 
--- src/lib.rt:291:13
 returns-3 : tie.Need-returns-3 Inv-loop μ-loop
-returns-3 c = ?
+returns-3 c =
+    let t = c .before .before .before in
+    let n = t .before .before .before .before in
+    both-differ (n .before .next-byte .ensures) (n .next-byte2 .ensures) (n .before .before .loop .inv) (t .before .before .if1 .left) (t .if2 .left) (c .if3 .taken)
 
--- src/lib.rt:281:5
 loop-less : tie.Need-loop-less Inv-loop μ-loop
-loop-less c = ?
+loop-less c =
+    let t = c .before .before .before .before .before .before .before in
+    ahead-falls (t .before .before .before .next-byte .ensures) (t .if1 .left)
 
--- src/lib.rt:281:5
 loop-again : tie.Need-loop-again Inv-loop μ-loop
-loop-again c = ?
+loop-again c =
+    let t = c .before .before .before .before .before in
+    let n = t .before .before .before .before in
+    both-on (n .before .next-byte .ensures) (n .next-byte2 .ensures) (n .before .before .loop .inv) (t .before .before .if1 .left) (t .if2 .left) (c .before .before .if3 .left)
 
 pub names-same-spec : {M : Type 1} → statement M
 names-same-spec =
