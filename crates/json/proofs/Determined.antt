@@ -6,8 +6,8 @@ use lib.ListN.{length, drop, length-drop}
 use native.Mathlib.Decide.{decLe}
 use native.Mathlib.Omega.{arith}
 use Rattle.json.specs.Tree.{Place, Moves}
-use Rattle.json.specs.Part.{Stop, past, torn, Stops}
-use Rattle.json.specs.Walk.{Walked, end, refused2, refused3}
+use Rattle.json.specs.Part.{Stop, Stops}
+use Rattle.json.specs.Walk.{Walked}
 use Rattle.json.specs.Turn.{Tells}
 use Rattle.json.specs.declared.byte.Part.{Part}
 use Rattle.json.specs.declared.byte.Part.the-variants.{Past, Torn}

@@ -26,7 +26,7 @@ module _ {A : Type 0} {f g : List ℕ → A} {text : List ℕ} {at i : ℕ} (p :
     passes-one law = record {
       same = rw add-one (sym (law (drop (suc i) text)) ∙ ap f (sym (drop-cons text i 0 h)) ∙ p .same);
       ahead = omega (arith, p .ahead);
-      inside = λ l. omega arith
+      inside = λ l. omega arith;
     }
 
     -- the answer is of the byte at `i`

@@ -15,7 +15,7 @@ use Rattle.json.specs.String.{after}
 use Rattle.json.specs.Number.{onward, mayEnd}
 use Rattle.json.specs.Part.{Stop, past, torn, stringStop, numberStop, wordStop, Stops}
 use Rattle.json.specs.Walk as W
-use Rattle.json.specs.Walk.{Frame, aList, anObject, Next, go, onto, step, stepChars, walk, Walked, end, refused2, refused3}
+use Rattle.json.specs.Walk.{Frame, aList, anObject, Next, go, onto, step, stepChars, walk, Walked, end, refused2}
 use Rattle.json.specs.Turn.{modeOf, frames, Open, steps, behindPart, plainStop, Turned}
 use Rattle.json.specs.declared.string.InString.{InString}
 use Rattle.json.specs.declared.string.InString.the-variants.{Plain}
@@ -142,7 +142,7 @@ module _ (m : W.Mode) (stays : (b : ℕ) (k : List Frame) → isBlank b ≡ true
   blanks-passed {text = text} {i = i} k p v = record {
     same = ap (walk m k) (v .lands) ∙ blanks-walk k (drop i text) ∙ p .same;
     ahead = omega (arith, p .ahead, v .ahead);
-    inside = λ h. v .inside (p .inside h)
+    inside = λ h. v .inside (p .inside h);
   }
 
 top-stays : (b : ℕ) (k : List Frame) → isBlank b ≡ true → step W.top b k ≡ go W.top k

@@ -158,7 +158,7 @@ unfolding after gather given
 chars c v [] = record { bytes = []; rest = [] }
 chars c v (b ∷ s) =
     elim (after c b) [
-      Goes next ↦ prepend (given c v b) (chars next (gather c v b) s)
-    | Closes ↦ record { bytes = []; rest = s }
-    | Refuses ↦ record { bytes = []; rest = b ∷ s }
+      | Goes next ↦ prepend (given c v b) (chars next (gather c v b) s)
+      | Closes ↦ record { bytes = []; rest = s }
+      | Refuses ↦ record { bytes = []; rest = b ∷ s }
     ]

@@ -28,10 +28,12 @@ mutual
     number : Place → List ℕ → Tree
     bool : Place → Bool → Tree
     null : Place → Tree
+
   -- A member: the place of its name's quote, the name decoded, the value, and the members behind it.
   pub data Members : Type 0 where
     noMember : Members
     member : Place → List ℕ → Tree → Members → Members
+
   pub data Elements : Type 0 where
     noElement : Elements
     element : Tree → Elements → Elements

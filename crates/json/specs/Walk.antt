@@ -25,22 +25,22 @@ pub data Frame : Type 0 where
 
 -- What may stand next, blanks aside. The brackets around it are the open ones.
 pub data Mode : Type 0 where
-  top : Mode   -- the text's own brace
+  top : Mode  -- the text's own brace
   value : Mode
-  firstElement : Mode   -- or the list's closing bracket
-  firstName : Mode   -- or the object's closing brace
+  firstElement : Mode  -- or the list's closing bracket
+  firstName : Mode  -- or the object's closing brace
   name : Mode
   colon : Mode
-  behind : Mode   -- behind a value: a comma or the closing bracket
+  behind : Mode  -- behind a value: a comma or the closing bracket
   inName : InString → Mode
   inString : InString → Mode
   inNumber : InNumber → Mode
-  inWord : List ℕ → Mode   -- the letters of true, false or null that are left
+  inWord : List ℕ → Mode  -- the letters of true, false or null that are left
 
 pub data Next : Type 0 where
-  wrong : Next   -- no text goes on so
-  deep : Next   -- the 21st open bracket
-  ended : Next   -- the text's own brace is closed
+  wrong : Next  -- no text goes on so
+  deep : Next  -- the 21st open bracket
+  ended : Next  -- the text's own brace is closed
   go : Mode → List Frame → Next
 
 -- At most twenty brackets are open at once.
@@ -113,7 +113,7 @@ step (inWord w) b k = stepWord w b k
 
 -- Where the walk of one object ends.
 pub data Walked : Type 0 where
-  end : Place → Walked   -- behind its closing brace
+  end : Place → Walked  -- behind its closing brace
   refused2 : Place → Walked
   refused3 : Place → Walked
 

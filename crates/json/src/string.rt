@@ -32,20 +32,20 @@ pub enum Letter {
 
 // What may stand next inside a string.
 pub enum InString {
-    Plain,   // a character or the closing quote
-    Escape,  // the letter behind a backslash
-    Unit,    // the first digit behind \u
-    UnitD,   // the digit behind \uD
-    Digit3,  // the last three digits
+    Plain, // a character or the closing quote
+    Escape, // the letter behind a backslash
+    Unit, // the first digit behind \u
+    UnitD, // the digit behind \uD
+    Digit3, // the last three digits
     Digit2,
     Digit1,
-    High2,   // the last two digits of a pair's first half
+    High2, // the last two digits of a pair's first half
     High1,
-    Slash,   // the backslash of the second half
+    Slash, // the backslash of the second half
     LetterU, // its u
     SecondD, // its D
     SecondC, // its digit C to F
-    Tail3,   // the last three bytes of a UTF-8 sequence
+    Tail3, // the last three bytes of a UTF-8 sequence
     Tail2,
     Tail1,
     AfterE0,
@@ -172,7 +172,11 @@ pub fn letter_of(b: u8) -> Letter
 fn go_if(test: bool, next: InString) -> CharStep
     ensures { λ r. ⌜ r ≡ goIf test next ⌝ }
 {
-    if test { CharStep::Goes(next) } else { CharStep::Refuses }
+    if test {
+        CharStep::Goes(next)
+    } else {
+        CharStep::Refuses
+    }
 }
 
 fn after_lead(b: Lead) -> CharStep

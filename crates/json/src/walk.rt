@@ -54,7 +54,12 @@ fn past(part: Part, mode: Mode, depth: usize, kinds: u64) -> Turn
     ensures { λ r. ⌜ r ≡ behindPart part mode depth kinds ⌝ }
 {
     match part {
-        Part::Past(e) => Turn::Go(Walk { at: e, mode: mode, depth: depth, kinds: kinds }),
+        Part::Past(e) => Turn::Go(Walk {
+            at: e,
+            mode: mode,
+            depth: depth,
+            kinds: kinds,
+        }),
         Part::Torn(p) => Turn::Bad(p),
     }
 }
@@ -65,7 +70,12 @@ fn opened(text: &[u8], at: usize, mode: Mode, depth: usize, kinds: u64, bit: u64
     ensures { λ r. ⌜ Turned (now (text .entry)) at (steps (now (text .entry)) at (W.opened (kind bit) (modeOf mode) (frames depth kinds))) r ⌝ }
 {
     if depth < LEVELS {
-        return Turn::Go(Walk { at: at + 1, mode: mode, depth: depth + 1, kinds: kinds * 2 + bit });
+        return Turn::Go(Walk {
+            at: at + 1,
+            mode: mode,
+            depth: depth + 1,
+            kinds: kinds * 2 + bit,
+        });
     }
     Turn::Deep(at)
 }
@@ -81,7 +91,12 @@ fn shut(text: &[u8], at: usize, depth: usize, kinds: u64) -> Turn
     if depth == 1 {
         return Turn::End(at + 1);
     }
-    Turn::Go(Walk { at: at + 1, mode: Mode::Behind, depth: depth - 1, kinds: kinds / 2 })
+    Turn::Go(Walk {
+        at: at + 1,
+        mode: Mode::Behind,
+        depth: depth - 1,
+        kinds: kinds / 2,
+    })
 }
 
 // true, false, null or a number.
@@ -155,7 +170,12 @@ fn colon(text: &[u8], at: usize, depth: usize, kinds: u64) -> Turn
     ensures { λ r. ⌜ Turned (now (text .entry)) at (walk W.colon (frames depth kinds) (drop at (now (text .entry)))) r ⌝ }
 {
     if text[at] == b':' {
-        return Turn::Go(Walk { at: at + 1, mode: Mode::Value, depth: depth, kinds: kinds });
+        return Turn::Go(Walk {
+            at: at + 1,
+            mode: Mode::Value,
+            depth: depth,
+            kinds: kinds,
+        });
     }
     Turn::Bad(at)
 }
@@ -167,7 +187,12 @@ fn behind_element(text: &[u8], at: usize, depth: usize, kinds: u64) -> Turn
 {
     let b = text[at];
     if b == b',' {
-        return Turn::Go(Walk { at: at + 1, mode: Mode::Value, depth: depth, kinds: kinds });
+        return Turn::Go(Walk {
+            at: at + 1,
+            mode: Mode::Value,
+            depth: depth,
+            kinds: kinds,
+        });
     }
     if b == b']' {
         return shut(text, at, depth, kinds);
@@ -182,7 +207,12 @@ fn behind_member(text: &[u8], at: usize, depth: usize, kinds: u64) -> Turn
 {
     let b = text[at];
     if b == b',' {
-        return Turn::Go(Walk { at: at + 1, mode: Mode::Name, depth: depth, kinds: kinds });
+        return Turn::Go(Walk {
+            at: at + 1,
+            mode: Mode::Name,
+            depth: depth,
+            kinds: kinds,
+        });
     }
     if b == b'}' {
         return shut(text, at, depth, kinds);

@@ -1,3 +1,4 @@
+-- What is left behind blanks is the same from every blank passed.
 use borrow.Author.Needs.{needs}
 use Prim.Native.Nat.{_-_, _≤_}
 use mathlib.Core.Path.{_≡_, refl}

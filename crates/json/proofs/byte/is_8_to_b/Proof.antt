@@ -1,3 +1,4 @@
+-- The code's tests are the rows of the table `is8ToB`.
 use Rattle.json.specs.Byte.{is8ToB}
 use Rattle.json.proofs.Rows.{rows}
 use Rattle.json.proofs.byte.is_8_to_b.Statement.{statement}

@@ -1,3 +1,4 @@
+-- The code's tests are the rows of the table `isBlank`.
 use Rattle.json.specs.Byte.{isBlank}
 use Rattle.json.proofs.Rows.{rows}
 use Rattle.json.proofs.byte.is_blank.Statement.{statement}

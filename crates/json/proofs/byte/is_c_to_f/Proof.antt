@@ -1,3 +1,4 @@
+-- The code's tests are the rows of the table `isCToF`.
 use Rattle.json.specs.Byte.{isCToF}
 use Rattle.json.proofs.Rows.{rows}
 use Rattle.json.proofs.byte.is_c_to_f.Statement.{statement}

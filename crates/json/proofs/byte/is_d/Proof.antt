@@ -1,3 +1,4 @@
+-- The code's tests are the rows of the table `isD`.
 use Rattle.json.specs.Byte.{isD}
 use Rattle.json.proofs.Rows.{rows}
 use Rattle.json.proofs.byte.is_d.Statement.{statement}

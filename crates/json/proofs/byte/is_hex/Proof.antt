@@ -1,3 +1,4 @@
+-- The code's tests are the rows of the table `isHex`.
 use Rattle.json.specs.Byte.{isHex}
 use Rattle.json.proofs.Rows.{rows}
 use Rattle.json.proofs.byte.is_hex.Statement.{statement}

@@ -1,3 +1,4 @@
+-- The code's tests are the rows of the table `within`.
 use Rattle.json.specs.Byte.{within}
 use Rattle.json.proofs.Rows.{rows}
 use Rattle.json.proofs.byte.within.Statement.{statement}

@@ -1,3 +1,4 @@
+-- The letters of the word that are left are asked of the rest of the text.
 use borrow.Author.Needs.{needs}
 use Prim.Native.Nat.{_-_}
 use mathlib.Core.Path.{sym, _∙_}
@@ -28,7 +29,7 @@ shared-slice-read-if2-2 : tie.Need-shared-slice-read-if2-2 Inv-loop μ-loop
 shared-slice-read-if2-2 c = search needs
 
 returns-2 : tie.Need-returns-2 Inv-loop μ-loop
-returns-2 c = 
+returns-2 c =
     let l = c .before .before .before .before in
     (answers-here (l .before .loop .inv) (c .before .before .before .if1 .left) torn (word-differs _ _ (l .loop-test .taken) _ (c .if2 .taken)), omega arith)
 
@@ -42,12 +43,12 @@ loop-less : tie.Need-loop-less Inv-loop μ-loop
 loop-less c = search needs
 
 loop-again : tie.Need-loop-again Inv-loop μ-loop
-loop-again c = 
+loop-again c =
     let l = c .before .before .before .before in
     passes-one (l .before .loop .inv) (c .before .before .before .if1 .left) (word-goes _ _ (l .loop-test .taken) _ (c .if2 .left))
 
 returns-3 : tie.Need-returns-3 Inv-loop μ-loop
-returns-3 c = 
+returns-3 c =
     let p = c .before .loop .inv in
     (sym (p .same) ∙ word-done _ _ (c .loop-test .left) _, p .ahead, p .inside (c .before .before .pre))
 

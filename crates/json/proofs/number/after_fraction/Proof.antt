@@ -1,3 +1,4 @@
+-- The code's tests are the rows of the table `onward` at Fraction.
 use Rattle.json.specs.Number.{onward}
 use Rattle.json.proofs.Rows.{rows}
 use Rattle.json.proofs.number.after_fraction.Statement.{statement}

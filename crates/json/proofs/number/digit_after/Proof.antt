@@ -1,3 +1,4 @@
+-- One answer for each part of a number; behind the sign stands what stands behind a digit of the exponent.
 use Rattle.json.specs.Number.{onward}
 use borrow.Author.Needs.{needs}
 use Rattle.json.proofs.number.digit_after.Statement.{statement}

@@ -1,3 +1,4 @@
+-- Where the number ends is asked of the rest; a number that may end has a byte.
 use borrow.Author.Needs.{needs}
 use Prim.Native.Nat.{_-_, _<_}
 use mathlib.Core.Path.{_≡_}
@@ -37,7 +38,7 @@ loop-less : tie.Need-loop-less Inv-loop μ-loop
 loop-less c = search needs
 
 loop-again : tie.Need-loop-again Inv-loop μ-loop
-loop-again c = 
+loop-again c =
     let l = c .before .before .before .before .before in
     (passes-one (l .before .loop .inv .0) (l .loop-test .taken) (number-goes _ _ (cc)), λ e. (omega arith, omega arith))
 
@@ -48,12 +49,12 @@ may-end-requires : tie.Need-may-end-requires Inv-loop μ-loop
 may-end-requires c κs = search needs
 
 returns : tie.Need-returns Inv-loop μ-loop
-returns c = 
+returns c =
     let l = c .before .before .before .before .before .before in
     (answers-here (l .before .loop .inv .0) (l .loop-test .taken) past (number-ends _ _ true (cc) (cc)), omega (arith, l .before .loop .inv .1 (cc)), omega arith)
 
 returns-2 : tie.Need-returns-2 Inv-loop μ-loop
-returns-2 c = 
+returns-2 c =
     let l = c .before .before .before .before .before .before in
     (answers-here (l .before .loop .inv .0) (l .loop-test .taken) torn (number-ends _ _ false (cc) (cc)), omega arith)
 
@@ -61,12 +62,12 @@ may-end-requires-2 : tie.Need-may-end-requires-2 Inv-loop μ-loop
 may-end-requires-2 c κs = search needs
 
 returns-3 : tie.Need-returns-3 Inv-loop μ-loop
-returns-3 c = 
+returns-3 c =
     let l = c .before .before in
     (answers-end (l .before .loop .inv .0) past (l .loop-test .left) (number-none _ true (cc)), omega (arith, l .before .loop .inv .1 (cc)), omega arith)
 
 returns-4 : tie.Need-returns-4 Inv-loop μ-loop
-returns-4 c = 
+returns-4 c =
     let l = c .before .before in
     (answers-end (l .before .loop .inv .0) torn (l .loop-test .left) (number-none _ false (cc)), omega arith)
 

@@ -1,3 +1,4 @@
+-- One answer for each kind of first byte.
 use borrow.Author.Needs.{needs}
 use Rattle.json.proofs.string.after_lead.Statement.{statement}
 use Rattle.json.proofs.string.after_lead.Tie as tie

@@ -1,3 +1,4 @@
+-- One answer for each kind of letter.
 use borrow.Author.Needs.{needs}
 use Rattle.json.proofs.string.after_letter.Statement.{statement}
 use Rattle.json.proofs.string.after_letter.Tie as tie

@@ -1,3 +1,4 @@
+-- The digit D goes before any other.
 use Rattle.json.specs.String.{after}
 use borrow.Author.Needs.{needs}
 use Rattle.json.proofs.string.after_unit.Statement.{statement}

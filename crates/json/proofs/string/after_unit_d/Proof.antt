@@ -1,3 +1,4 @@
+-- 0 to 7 go before 8 to B.
 use Rattle.json.specs.Byte.{isTo7}
 use Rattle.json.specs.String.{after}
 use borrow.Author.Needs.{needs}

@@ -1,3 +1,4 @@
+-- Each byte passed is a character of its own, so the string ends where it ended.
 use borrow.Author.Needs.{needs}
 use Prim.Native.Nat.{_-_}
 use lib.ListN.{length}
@@ -30,7 +31,7 @@ loop-less : tie.Need-loop-less Inv-loop μ-loop
 loop-less c = search needs
 
 loop-again : tie.Need-loop-again Inv-loop μ-loop
-loop-again c = 
+loop-again c =
     let l = c .before .before .before in
     passes-one (l .before .loop .inv) (l .loop-test .taken) (ascii-goes _ (cc))
 

@@ -1,3 +1,4 @@
+-- Only where a character may stand are bytes skipped.
 use borrow.Author.Needs.{needs}
 use Rattle.json.proofs.string.ascii_skipped.Statement.{statement}
 use Rattle.json.proofs.string.ascii_skipped.Tie as tie

@@ -1,3 +1,4 @@
+-- One answer for each state of a string.
 use Rattle.json.specs.Byte.{isTail}
 use Rattle.json.specs.String.{after}
 use borrow.Author.Needs.{needs}

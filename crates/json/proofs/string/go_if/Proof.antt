@@ -1,3 +1,4 @@
+-- The two answers of the test.
 use Rattle.json.proofs.string.go_if.Statement.{statement}
 use Rattle.json.proofs.string.go_if.Tie as tie
 

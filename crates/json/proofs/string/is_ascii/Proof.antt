@@ -1,3 +1,4 @@
+-- The code's tests are the rows of the table `isAscii`.
 use Rattle.json.specs.String.{isAscii}
 use Rattle.json.proofs.Rows.{rows}
 use Rattle.json.proofs.string.is_ascii.Statement.{statement}

@@ -1,3 +1,4 @@
+-- The code's tests are the rows of the table `lead`.
 use Rattle.json.specs.String.{lead}
 use Rattle.json.proofs.Rows.{rows}
 use Rattle.json.proofs.string.lead_of.Statement.{statement}

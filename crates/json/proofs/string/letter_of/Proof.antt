@@ -1,3 +1,4 @@
+-- The code's tests are the rows of the table `letter`.
 use Rattle.json.specs.String.{letter}
 use Rattle.json.proofs.Rows.{rows}
 use Rattle.json.proofs.string.letter_of.Statement.{statement}

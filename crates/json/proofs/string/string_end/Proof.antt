@@ -1,3 +1,4 @@
+-- Where the string ends is asked of the rest, in the state that the bytes passed lead to.
 use borrow.Author.Needs.{needs}
 use Prim.Native.Nat.{_-_}
 use mathlib.Core.Path.{sym}
@@ -41,7 +42,7 @@ loop-less : tie.Need-loop-less Inv-loop μ-loop
 loop-less c = search needs
 
 loop-again : tie.Need-loop-again Inv-loop μ-loop
-loop-again c = 
+loop-again c =
     let l = c .before .before .before .before .before .before in
     skipped (passes-one (l .before .loop .inv) (l .loop-test .taken) (string-goes _ _ (cc))) (c .ascii-skipped .ensures)
 
@@ -52,7 +53,7 @@ add-t12 : tie.Need-add-t12 Inv-loop μ-loop
 add-t12 c = search needs
 
 returns : tie.Need-returns Inv-loop μ-loop
-returns c = 
+returns c =
     let l = c .before .before .before .before in
     let p = passes-one (l .before .loop .inv) (l .loop-test .taken) {k = past} (string-closes _ _ (cc)) in
     (sym (p .same), p .ahead, omega arith)
@@ -61,7 +62,7 @@ enum-told-2 : tie.Need-enum-told-2 Inv-loop μ-loop
 enum-told-2 c = search needs
 
 returns-2 : tie.Need-returns-2 Inv-loop μ-loop
-returns-2 c = 
+returns-2 c =
     let l = c .before .before .before .before in
     (answers-here (l .before .loop .inv) (l .loop-test .taken) torn (string-refuses _ _ (cc)), omega arith)
 

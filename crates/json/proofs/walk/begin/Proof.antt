@@ -1,5 +1,5 @@
+-- The first byte of a value: a string, an object, a list, or a plain value.
 use borrow.Author.Needs.{needs}
-use native.Mathlib.Omega.{arith}
 use native.Mathlib.Numerals.{add-one}
 use Rattle.json.specs.declared.walk.Mode.the-variants.{Behind}
 use Rattle.json.proofs.Walks.{part-turns, string-walk, plain-at}
@@ -19,7 +19,7 @@ past-requires : tie.Need-past-requires
 past-requires c κs = search needs
 
 returns : tie.Need-returns
-returns c = 
+returns c =
     let s = c .before .before .before .before .before in
     rw (c .past .ensures, c .before .before .if1 .taken, string-walk)
     (part-turns _ _ _ (c .before .string-end .result) Behind (s .pre .1) (rw add-one at (c .before .string-end .ensures)))
@@ -43,7 +43,7 @@ past-requires-2 : tie.Need-past-requires-2
 past-requires-2 c κs = search needs
 
 returns-4 : tie.Need-returns-4
-returns-4 c = 
+returns-4 c =
     let s = c .before .before .before .before .before .before .before in
     rw (c .past2 .ensures, plain-at _ _ (s .pre .0) _ (c .before .before .before .before .if1 .left) (c .before .before .before .if2 .left) (c .before .before .if3 .left))
     (part-turns _ _ _ (c .before .plain-end .result) Behind (s .pre .1) (c .before .plain-end .ensures))

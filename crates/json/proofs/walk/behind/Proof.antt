@@ -1,3 +1,4 @@
+-- The innermost bracket's bit says whether an element or a member ends here.
 use native.Mathlib.Omega.{arith}
 use Rattle.json.specs.Walk as W
 use Rattle.json.specs.Walk.{step}
@@ -9,7 +10,7 @@ use Rattle.json.proofs.walk.behind.Tie as tie
 
 returns : tie.Need-returns
 unfolding frames step
-returns c = 
+returns c =
     let s = c .before .before in
     (rw (walk-at _ _ (s .pre .0) W.behind _, c .if1 .taken, s .pre .1), omega arith)
 

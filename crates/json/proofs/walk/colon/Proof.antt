@@ -1,3 +1,4 @@
+-- A colon, and then a value; nothing else may stand here.
 use native.Mathlib.Omega.{arith}
 use native.Mathlib.Numerals.{add-one}
 use borrow.Author.Tests.{ne-eqb}
@@ -16,13 +17,13 @@ add-t8 c = search needs
 
 returns : tie.Need-returns
 unfolding step
-returns c = 
+returns c =
     let s = c .before .before in
     (rw (walk-at _ _ (s .pre .0) W.colon _, s .pre .1, c .if1 .taken, add-one), omega arith, omega arith, s .pre .2)
 
 returns-2 : tie.Need-returns-2
 unfolding step
-returns-2 c = 
+returns-2 c =
     let s = c .before .before in
     (rw (walk-at _ _ (s .pre .0) W.colon _, s .pre .1, ne-eqb _ 58 (c .if1 .left)), omega arith)
 

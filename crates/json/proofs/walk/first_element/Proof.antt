@@ -1,3 +1,4 @@
+-- The list's closing bracket, or a value.
 use borrow.Author.Needs.{needs}
 use borrow.Author.Tests.{ne-eqb}
 use Rattle.json.specs.Walk as W
@@ -14,7 +15,7 @@ shut-requires c κs = search needs
 
 returns : tie.Need-returns
 unfolding step
-returns c = 
+returns c =
     let s = c .before .before .before .before in
     rw (walk-at _ _ (s .pre .0) W.firstElement _, s .pre .1, c .before .if1 .taken) (c .shut .ensures)
 
@@ -23,7 +24,7 @@ begin-requires c κs = search needs
 
 returns-2 : tie.Need-returns-2
 unfolding step
-returns-2 c = 
+returns-2 c =
     let s = c .before .before .before .before in
     rw (walk-at _ _ (s .pre .0) W.firstElement _, s .pre .1, ne-eqb _ 93 (c .before .if1 .left)) (c .begin .ensures)
 

@@ -1,3 +1,4 @@
+-- Blanks, the brace, and the walk from behind it.
 use native.Mathlib.Omega.{arith}
 use Rattle.json.specs.Walk as W
 use Rattle.json.proofs.Moves.{passes-one, answers-here, answers-end, no-blank}
@@ -16,7 +17,7 @@ shared-slice-read-if2 : tie.Need-shared-slice-read-if2
 shared-slice-read-if2 c = search needs
 
 returns-2 : tie.Need-returns-2
-returns-2 c = 
+returns-2 c =
     let v = c .before .before .before .blanks-end .ensures in
     let h = c .before .before .if1 .left in
     (answers-here (top-blanks v) h W.refused2 (top-refuses _ (no-blank v h) (c .if2 .taken)), omega arith)
@@ -28,7 +29,7 @@ inside-end-requires : tie.Need-inside-end-requires
 inside-end-requires c κs = search needs
 
 returns-3 : tie.Need-returns-3
-returns-3 c = 
+returns-3 c =
     let v = c .before .before .before .before .blanks-end .ensures in
     let h = c .before .before .before .if1 .left in
     rw (passes-one (top-blanks v) h (top-opens _ (no-blank v h) (c .before .if2 .left)) .same) at (c .inside-end .ensures)

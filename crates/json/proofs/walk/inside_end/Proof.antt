@@ -1,3 +1,4 @@
+-- At each place the rest is walked as it is from the start; each turn moves ahead.
 use borrow.Author.Needs.{needs}
 use Prim.Native.Nat.{_-_}
 use mathlib.Core.List.{[], _∷_}
@@ -22,7 +23,7 @@ unfolding frames
 loop-holds c =
     record {
       passes = passes-none (walk W.firstName (W.anObject ∷ [])) _ _;
-      opens = record { few = omega arith; small = omega arith }
+      opens = record { few = omega arith; small = omega arith };
     }
 
 blanks-end-requires : tie.Need-blanks-end-requires Inv-loop μ-loop
@@ -40,7 +41,7 @@ enum-known-next : tie.Need-enum-known-next Inv-loop μ-loop
 enum-known-next c = search needs
 
 loop-less : tie.Need-loop-less Inv-loop μ-loop
-loop-less c = 
+loop-less c =
     let t = rw (c .before .next .given .1) at (c .before .before .before .turn-at .ensures) in
     omega (arith, t .1, t .2)
 
@@ -54,7 +55,7 @@ enum-known-e : tie.Need-enum-known-e Inv-loop μ-loop
 enum-known-e c = search needs
 
 returns-2 : tie.Need-returns-2 Inv-loop μ-loop
-returns-2 c = 
+returns-2 c =
     let l = c .before .before .before .before .before in
     let t = rw (c .before .e .given .1) at (c .before .before .before .turn-at .ensures) in
     (inside-ends (l .before .before .loop .inv) (l .blanks-end .ensures) (t .0), t .1)
@@ -63,7 +64,7 @@ enum-known-p : tie.Need-enum-known-p Inv-loop μ-loop
 enum-known-p c = search needs
 
 returns-3 : tie.Need-returns-3 Inv-loop μ-loop
-returns-3 c = 
+returns-3 c =
     let l = c .before .before .before .before .before in
     let t = rw (c .before .p .given .1) at (c .before .before .before .turn-at .ensures) in
     (inside-ends (l .before .before .loop .inv) (l .blanks-end .ensures) (t .0), t .1)
@@ -72,7 +73,7 @@ enum-known-p-2 : tie.Need-enum-known-p-2 Inv-loop μ-loop
 enum-known-p-2 c = search needs
 
 returns-4 : tie.Need-returns-4 Inv-loop μ-loop
-returns-4 c = 
+returns-4 c =
     let l = c .before .before .before .before .before in
     let t = rw (c .before .p2 .given .1) at (c .before .before .before .turn-at .ensures) in
     (inside-ends (l .before .before .loop .inv) (l .blanks-end .ensures) (t .0), t .1)

@@ -1,3 +1,4 @@
+-- A quote begins a name; nothing else may stand here.
 use borrow.Author.Needs.{needs}
 use native.Mathlib.Omega.{arith}
 use native.Mathlib.Numerals.{add-one}
@@ -23,14 +24,14 @@ past-requires c κs = search needs
 
 returns : tie.Need-returns
 unfolding step
-returns c = 
+returns c =
     let s = c .before .before .before .before .before in
     rw (c .past .ensures, walk-at _ _ (s .pre .0) W.name _, s .pre .1, c .before .before .if1 .taken, name-walk)
     (part-turns _ _ _ (c .before .string-end .result) Colon (s .pre .2) (rw add-one at (c .before .string-end .ensures)))
 
 returns-2 : tie.Need-returns-2
 unfolding step
-returns-2 c = 
+returns-2 c =
     let s = c .before .before .before in
     (rw (walk-at _ _ (s .pre .0) W.name _, s .pre .1, ne-eqb _ 34 (c .if1 .left)), omega arith)
 

@@ -1,3 +1,4 @@
+-- Behind the first object stand only blanks.
 use Prim.Native.Nat.{ℕ}
 use native.Mathlib.Omega.{arith}
 use lib.ListN.{drop-of-length-le}
@@ -18,7 +19,7 @@ blanks-end-requires c κs = search needs
 
 returns : tie.Need-returns
 unfolding oneObject
-returns c = 
+returns c =
     let t = rw (c .before .before .before .e .given .1) at (c .before .before .before .before .before .first-object .ensures) in
     (rw (t .0, ← c .before .blanks-end .ensures .lands, drop-cons {A = ℕ} _ _ 0 (c .if1 .taken)), omega arith)
 
@@ -30,19 +31,19 @@ enum-known-p-2 c = search needs
 
 returns-2 : tie.Need-returns-2
 unfolding oneObject
-returns-2 c = 
+returns-2 c =
     let t = rw (c .before .before .before .e .given .1) at (c .before .before .before .before .before .first-object .ensures) in
     (rw (t .0, ← c .before .blanks-end .ensures .lands, drop-of-length-le _ (c .if1 .left)), t .1)
 
 returns-3 : tie.Need-returns-3
 unfolding oneObject
-returns-3 c = 
+returns-3 c =
     let t = rw (c .before .p .given .1) at (c .before .before .before .first-object .ensures) in
     (rw (t .0), t .1)
 
 returns-4 : tie.Need-returns-4
 unfolding oneObject
-returns-4 c = 
+returns-4 c =
     let t = rw (c .before .p2 .given .1) at (c .before .before .before .first-object .ensures) in
     (rw (t .0), t .1)
 

@@ -1,3 +1,4 @@
+-- A twentieth bracket still fits, a twenty-first does not.
 use denote.Ref.{now}
 use native.Mathlib.Omega.{arith}
 use Rattle.json.proofs.Frames.{open-small, open-pushed}
@@ -19,11 +20,14 @@ add-t11 : tie.Need-add-t11
 add-t11 c = omega (arith, open-small (c .before .pre .1))
 
 returns : tie.Need-returns
-returns c = 
+returns c =
     let s = c .before in
-    let a = s .args in
-    (opens (now (a .text)) (a .at) (a .mode) (a .depth) (a .kinds) (a .bit) (c .if1 .taken) (s .pre .2), omega arith, omega arith,
-    open-pushed (s .pre .1) (c .if1 .taken) (s .pre .2))
+    let a = s .args in (
+      opens (now (a .text)) (a .at) (a .mode) (a .depth) (a .kinds) (a .bit) (c .if1 .taken) (s .pre .2),
+      omega arith,
+      omega arith,
+      open-pushed (s .pre .1) (c .if1 .taken) (s .pre .2),
+    )
 
 returns-2 : tie.Need-returns-2
 returns-2 c =

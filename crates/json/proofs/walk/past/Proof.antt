@@ -1,3 +1,4 @@
+-- One answer for a part that ends, and one for a part that is torn.
 use borrow.Author.Needs.{needs}
 use Rattle.json.proofs.walk.past.Statement.{statement}
 use Rattle.json.proofs.walk.past.Tie as tie

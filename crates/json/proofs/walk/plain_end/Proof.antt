@@ -1,3 +1,4 @@
+-- The first byte says which word it is, or that it is a number.
 use Prim.Native.Nat.{ℕ}
 use lib.Seq.{drop-cons}
 use native.Mathlib.Numerals.{add-one}
@@ -54,7 +55,7 @@ number-end-requires c κs = search needs
 
 returns-4 : tie.Need-returns-4
 unfolding plainStop
-returns-4 c = 
+returns-4 c =
     let h = c .before .before .before .before .before .before .pre in
     rw (drop-cons {A = ℕ} _ _ 0 h, ne-eqb _ 116 (c .before .before .before .if1 .left), ne-eqb _ 102 (c .before .before .if2 .left), ne-eqb _ 110 (c .before .if3 .left))
     (rw (drop-cons {A = ℕ} _ _ 0 h) at (c .number-end .ensures))

@@ -1,3 +1,4 @@
+-- None is open, the last is closed, or one of several.
 use denote.Ref.{now}
 use native.Mathlib.Omega.{arith}
 use Rattle.json.proofs.Frames.{open-popped}

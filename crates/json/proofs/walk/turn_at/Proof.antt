@@ -1,3 +1,4 @@
+-- One answer for each mode.
 use borrow.Author.Needs.{needs}
 use Rattle.json.specs.Walk as W
 use Rattle.json.specs.Walk.{step}
@@ -43,7 +44,7 @@ behind-requires c κs = search needs
 
 returns : tie.Need-returns
 unfolding step
-returns c = 
+returns c =
     let s = c .before .before .before .before in
     rw (c .before .enum-told .given .1, walk-at _ _ (s .pre .0) W.value _, s .pre .1) (c .begin .ensures)
 

@@ -1,0 +1,6 @@
+-- What the proofs of several functions use.
+mod Rows
+mod Ahead
+mod Lengths
+mod Same
+mod Turns

@@ -1,0 +1,77 @@
+use native.Mathlib.Omega.{arith}
+use borrow.Author.Needs.{needs}
+use Prim.Native.Nat.{_≤_}
+use mathlib.Core.Path.{_≡_, ap}
+use lib.ListN.{length, drop}
+use Rattle.moving.specs.Read.{decoded}
+use Rattle.string.specs.Strings.{same, ahead, Sound}
+use Rattle.string.proofs.Ahead.{ahead-falls}
+use Rattle.string.proofs.Turns.{name-ends, name-shorter, name-other, name-on, Against, against-whole}
+use denote.Ref.{now}
+use Rattle.string.proofs.name_is.Statement.{statement}
+use Rattle.string.proofs.name_is.Tie as tie
+
+abbrev Inv-loop : tie.InvT-loop
+Inv-loop text quote name c₀ k₀ c k = Against text name (same (decoded (drop quote text)) name) c k
+
+abbrev μ-loop : tie.MeasureT-loop
+μ-loop text quote name c₀ k₀ c k = length (ahead text c)
+
+start-requires : tie.Need-start-requires Inv-loop μ-loop
+start-requires c κs = search needs
+
+loop-holds : tie.Need-loop-holds Inv-loop μ-loop
+loop-holds c = against-whole _ (c .start .ensures .1) (c .start .ensures .0)
+
+next-byte-requires : tie.Need-next-byte-requires Inv-loop μ-loop
+next-byte-requires c κs = c .loop .inv .sound
+
+returns : tie.Need-returns Inv-loop μ-loop
+returns c =
+    let n = c .before .before in
+    name-ends (n .next-byte .ensures) (n .before .loop .inv) (c .if1 .taken)
+
+returns-2 : tie.Need-returns-2 Inv-loop μ-loop
+returns-2 c =
+    let n = c .before .before .before in
+    name-shorter (n .next-byte .ensures) (n .before .loop .inv) (c .before .if1 .left) (c .if2 .taken)
+
+shared-slice-read-if3 : tie.Need-shared-slice-read-if3 Inv-loop μ-loop
+shared-slice-read-if3 c = search needs
+
+returns-3 : tie.Need-returns-3 Inv-loop μ-loop
+returns-3 c =
+    let t = c .before .before .before in
+    let n = t .before .before .before in
+    name-other (n .next-byte .ensures) (n .before .loop .inv) (t .before .if1 .left) (t .if2 .left) (c .if3 .taken)
+
+add-k : tie.Need-add-k Inv-loop μ-loop
+add-k c = search needs
+
+loop-less : tie.Need-loop-less Inv-loop μ-loop
+loop-less c =
+    let t = c .before .before .before .before .before in
+    ahead-falls (t .before .before .next-byte .ensures) (t .if1 .left)
+
+loop-again : tie.Need-loop-again Inv-loop μ-loop
+loop-again c =
+    let t = c .before .before .before .before in
+    let n = t .before .before .before in
+    name-on (n .next-byte .ensures) (n .before .loop .inv) (t .before .if1 .left) (t .if2 .left) (c .before .if3 .left)
+
+pub name-is-spec : {M : Type 1} → statement M
+name-is-spec =
+    tie.close
+    (tie.spec
+    Inv-loop
+    μ-loop
+    start-requires
+    loop-holds
+    next-byte-requires
+    returns
+    returns-2
+    shared-slice-read-if3
+    returns-3
+    add-k
+    loop-less
+    loop-again)
