@@ -1,5 +1,6 @@
 -- `number::has_millionths` meets its contract.
 use mathlib.Core.Path.{_≡_, ap, _∙_}
+use native.Mathlib.Omega.{arith}
 use borrow.Author.Needs.{needs}
 use denote.Ref.{now}
 use Rattle.number.specs.Number.{allZero}
@@ -9,7 +10,7 @@ use Rattle.number.proofs.has_millionths.Statement.{statement}
 use Rattle.number.proofs.has_millionths.Tie as tie
 
 returns : tie.Need-returns
-returns c = zero-over (now (c .before .before .args .fraction)) 6 (c .if1 .taken)
+returns c = zero-over (now (c .before .before .args .fraction)) 6 (omega arith)
 
 sub-is-all-zero : tie.Need-sub-is-all-zero
 sub-is-all-zero c = search needs
