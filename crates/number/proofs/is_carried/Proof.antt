@@ -1,5 +1,5 @@
--- `number::is_carried` meets its contract.
-use mathlib.Core.Path.{_≡_, ap, _∙_}
+-- `number::is_carried` meets its contract: a number that is not too long is carried just if it has no exponent.
+use mathlib.Core.Path.{ap, _∙_}
 use mathlib.Core.Bool.{not}
 use native.Mathlib.Omega.{arith}
 use borrow.Author.Needs.{needs}

@@ -1,4 +1,4 @@
--- `number::rounding` meets its contract.
+-- `number::rounding` meets its contract: the first digit tells.
 use native.Mathlib.Omega.{arith}
 use borrow.Author.Needs.{needs}
 use denote.Ref.{now}
