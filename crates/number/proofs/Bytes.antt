@@ -1,48 +1,57 @@
--- A number byte by byte, without what it counts: each definition at one byte, and at the end.
+-- A number byte by byte: what the byte at i, and the end, say of the whole.
 use Prim.Native.Nat.{ℕ, _+_, _<_, _≤_}
-use mathlib.Core.Path.{_≡_, refl}
+use mathlib.Core.Path.{_≡_, refl, _∙_}
 use mathlib.Core.List.{List, [], _∷_}
 use mathlib.Core.Bool.{Bool, true, false, cond}
 use lib.ListN.{length, getD, drop, drop-of-length-le}
 use lib.Seq.{drop-cons}
+use lib.Dec.{eqb, ltb}
 use native.Mathlib.Omega.{arith}
 use native.Mathlib.Numerals.{add-one}
-use lib.Dec.{eqb, ltb}
 use borrow.Author.Tests.{eq-eqb, ne-eqb, lt-ltb, le-ltb}
 use Rattle.number.specs.Number.{negative, exponent, allZero, up}
 
-module _ (raw : List ℕ) (i : ℕ) where
-  module _ (h : i < length raw) where
-    pub exponent-capital : getD raw i 0 ≡ 69 → true ≡ exponent (drop i raw)
-    unfolding exponent
-    exponent-capital e = rw (drop-cons raw i 0 h, eq-eqb (getD raw i 0) 69 e)
+-- The bytes before i have no mark of an exponent.
+module _ (raw : List ℕ) (i : ℕ) (inv : exponent (drop i raw) ≡ exponent raw) where
+  pub exponent-capital : i < length raw → getD raw i 0 ≡ 69 → true ≡ exponent raw
+  unfolding exponent
+  exponent-capital h e = rw (← inv, drop-cons raw i 0 h, eq-eqb (getD raw i 0) 69 e)
 
-    pub exponent-small : (getD raw i 0 ≡ 69 → ⊥) → getD raw i 0 ≡ 101 → true ≡ exponent (drop i raw)
-    unfolding exponent
-    exponent-small n e = rw (drop-cons raw i 0 h, ne-eqb (getD raw i 0) 69 n, eq-eqb (getD raw i 0) 101 e)
+  pub exponent-small : i < length raw → (getD raw i 0 ≡ 69 → ⊥) → getD raw i 0 ≡ 101 → true ≡ exponent raw
+  unfolding exponent
+  exponent-small h n e = rw (← inv, drop-cons raw i 0 h, ne-eqb (getD raw i 0) 69 n, eq-eqb (getD raw i 0) 101 e)
 
-    pub exponent-more : (getD raw i 0 ≡ 69 → ⊥) → (getD raw i 0 ≡ 101 → ⊥) → exponent (drop (i + 1) raw) ≡ exponent (drop i raw)
-    unfolding exponent
-    exponent-more n m = rw (drop-cons raw i 0 h, ne-eqb (getD raw i 0) 69 n, ne-eqb (getD raw i 0) 101 m, add-one)
+  pub exponent-more : i < length raw → (getD raw i 0 ≡ 69 → ⊥) → (getD raw i 0 ≡ 101 → ⊥) → exponent (drop (i + 1) raw) ≡ exponent raw
+  unfolding exponent
+  exponent-more h n m = rw (← inv, drop-cons raw i 0 h, ne-eqb (getD raw i 0) 69 n, ne-eqb (getD raw i 0) 101 m, add-one)
 
-    pub zero-not : (getD raw i 0 ≡ 48 → ⊥) → false ≡ allZero (drop i raw)
-    unfolding allZero
-    zero-not n = rw (drop-cons raw i 0 h, ne-eqb (getD raw i 0) 48 n)
+  pub exponent-over : length raw ≤ i → false ≡ exponent raw
+  unfolding exponent
+  exponent-over h = rw (← inv, drop-of-length-le raw h)
 
-    pub zero-more : getD raw i 0 ≡ 48 → allZero (drop (i + 1) raw) ≡ allZero (drop i raw)
-    unfolding allZero
-    zero-more e = rw (drop-cons raw i 0 h, eq-eqb (getD raw i 0) 48 e, add-one)
+pub ruleset exponents = (exponent-capital, exponent-small, exponent-more, exponent-over, arith)
 
-  module _ (h : length raw ≤ i) where
-    pub exponent-over : false ≡ exponent (drop i raw)
-    unfolding exponent
-    exponent-over = rw (drop-of-length-le raw h)
+-- Nothing is left.
+pub zero-none : (s : List ℕ) (i : ℕ) → length s ≤ i → true ≡ allZero (drop i s)
+unfolding allZero
+zero-none s i h = rw (drop-of-length-le s h)
 
-    pub zero-over : true ≡ allZero (drop i raw)
-    unfolding allZero
-    zero-over = rw (drop-of-length-le raw h)
+-- The bytes before i are zeros.
+module _ (raw : List ℕ) (i : ℕ) (inv : allZero (drop i raw) ≡ allZero raw) where
+  pub zero-not : i < length raw → (getD raw i 0 ≡ 48 → ⊥) → false ≡ allZero raw
+  unfolding allZero
+  zero-not h n = rw (← inv, drop-cons raw i 0 h, ne-eqb (getD raw i 0) 48 n)
 
--- the first byte, or none
+  pub zero-more : i < length raw → getD raw i 0 ≡ 48 → allZero (drop (i + 1) raw) ≡ allZero raw
+  unfolding allZero
+  zero-more h e = rw (← inv, drop-cons raw i 0 h, eq-eqb (getD raw i 0) 48 e, add-one)
+
+  pub zero-over : length raw ≤ i → true ≡ allZero raw
+  zero-over h = zero-none raw i h ∙ inv
+
+pub ruleset zeros = (zero-not, zero-more, zero-over, arith)
+
+-- The first byte, or none.
 pub negative-none : (raw : List ℕ) → length raw ≡ 0 → false ≡ negative raw
 negative-none [] h = refl
 negative-none (b ∷ s) h = absurd (omega arith)
@@ -63,6 +72,7 @@ pub up-half : (s : List ℕ) → (length s ≡ 0 → ⊥) → 53 ≤ getD s 0 0 
 up-half [] n h = absurd (n refl)
 up-half (b ∷ s) n h = rw (le-ltb b 53 h)
 
+-- Rounding adds at most one.
 pub up-one : (s : List ℕ) → up s ≤ 1
 up-one [] = omega arith
 up-one (b ∷ s) = go (ltb b 53)

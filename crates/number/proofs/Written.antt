@@ -12,7 +12,7 @@ use Rattle.json.specs.Tree.{Place, Moves}
 use Rattle.moving.specs.Moving.{behindNumber}
 use Rattle.moving.specs.Read.{written}
 
--- with what stands behind it, all that is left
+-- What is left: the number, and what stands behind it.
 written-behind : (s : Place) → written s ++ behindNumber s ≡ s
 unfolding written behindNumber
 written-behind [] = refl
@@ -22,13 +22,15 @@ written-behind (b ∷ s) = go (isNumeric b) (written-behind s)
     go true e = ap (λ r. b ∷ r) e
     go false e = refl
 
-pub written-is : (text : List ℕ) (at end : ℕ) → at < length text → Moves behindNumber text at end → take (end - at) (drop at text) ≡ written (drop at text)
-written-is text at end h m =
+-- So the bytes to where the code moves are the number.
+pub written-is : {text : List ℕ} {at end : ℕ} → Moves behindNumber text at end → at < length text → take (end - at) (drop at text) ≡ written (drop at text)
+written-is {text} {at} {end} m h =
     let s = drop at text in
     let all : written s ++ drop end text ≡ s = ap (λ r. written s ++ r) (m .lands) ∙ written-behind s in
     let n : length (written s) ≡ end - at = omega (arith, simp (length-append, length-drop) at (ap length all), m .ahead, m .inside (omega arith)) in
     ap (take (end - at)) (sym all) ∙ take-at (written s) (drop end text) (end - at) n
 
+-- Behind the text there are none.
 pub written-none : (text : List ℕ) (at : ℕ) → length text ≤ at → [] ≡ written (drop at text)
 unfolding written
 written-none text at h = rw (drop-of-length-le text h)

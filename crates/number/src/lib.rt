@@ -187,7 +187,12 @@ pub fn integer_of(raw: &[u8], least: u64, most: u64) -> Integer
     let point = point_at(raw);
     let whole = counted(&raw[..point]);
     let fraction = fraction_at(raw, point);
-    integer_among(least, most, whole + rounding(fraction), is_all_zero(fraction))
+    integer_among(
+        least,
+        most,
+        whole + rounding(fraction),
+        is_all_zero(fraction),
+    )
 }
 
 // Whether a fraction is one of whole millionths.

@@ -1,4 +1,4 @@
--- `number::amount_from` meets its contract.
+-- `number::amount_from` meets its contract: its two tests are those of the range.
 use borrow.Author.Tests.{le-leb, lt-leb}
 use Rattle.number.proofs.amount_from.Statement.{statement}
 use Rattle.number.proofs.amount_from.Tie as tie

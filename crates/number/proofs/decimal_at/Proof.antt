@@ -1,12 +1,7 @@
--- `number::decimal_at` meets its contract.
-use Prim.Native.Nat.{_≤_}
-use mathlib.Core.Path.{_≡_, ap, _∙_}
-use lib.ListN.{length}
+-- `number::decimal_at` meets its contract: the bytes from the place to behind the number are those that it is written with.
 use native.Mathlib.Omega.{arith}
-use denote.Ref.{now}
-use Rattle.number.specs.Number.{decimalFrom}
-use Rattle.number.proofs.Written.{written-none, written-is}
 use borrow.Author.Needs.{needs}
+use Rattle.number.proofs.Written.{written-none, written-is}
 use Rattle.number.proofs.decimal_at.Statement.{statement}
 use Rattle.number.proofs.decimal_at.Tie as tie
 
@@ -17,9 +12,7 @@ decimal-of-requires : tie.Need-decimal-of-requires
 decimal-of-requires c κs = search needs
 
 returns : tie.Need-returns
-returns c =
-    let s = c .before .before .before .before in
-    c .decimal-of .ensures ∙ ap (decimalFrom (s .args .least)) (written-none (now (s .args .text)) (s .args .at) (c .before .before .if1 .taken))
+returns c = rw (← written-none _ _ (c .before .before .if1 .taken)) (c .decimal-of .ensures)
 
 behind-number-requires : tie.Need-behind-number-requires
 behind-number-requires c κs = search needs
@@ -31,19 +24,13 @@ part-decimal-of-start : tie.Need-part-decimal-of-start
 part-decimal-of-start c = search needs
 
 part-decimal-of-end : tie.Need-part-decimal-of-end
-part-decimal-of-end c =
-    let s = c .before .before .before in
-    let h : c .behind-number .result ≤ length (now (s .args .text)) = c .behind-number .ensures .inside (omega arith) in
-    search needs
+part-decimal-of-end c = omega (arith, c .behind-number .ensures .inside (omega arith))
 
 decimal-of-requires-2 : tie.Need-decimal-of-requires-2
 decimal-of-requires-2 c κs = search needs
 
 returns-2 : tie.Need-returns-2
-returns-2 c =
-    let b = c .before .before in
-    let s = b .before .before .before in
-    c .decimal-of2 .ensures ∙ ap (decimalFrom (s .args .least)) (written-is (now (s .args .text)) (s .args .at) (b .behind-number .result) (b .before .if1 .left) (b .behind-number .ensures))
+returns-2 c = rw (← written-is (c .before .before .behind-number .ensures) (c .before .before .before .if1 .left)) (c .decimal-of2 .ensures)
 
 pub decimal-at-spec : {M : Type 1} → statement M
 decimal-at-spec =

@@ -1,7 +1,6 @@
--- `number::fraction_at` meets its contract.
+-- `number::fraction_at` meets its contract: what is left behind the point, or at the end.
 use borrow.Author.Needs.{needs}
-use denote.Ref.{now}
-use Rattle.number.proofs.Point.{fraction-behind, fraction-none}
+use Rattle.number.proofs.Point.{fractions}
 use Rattle.number.proofs.fraction_at.Statement.{statement}
 use Rattle.number.proofs.fraction_at.Tie as tie
 
@@ -18,9 +17,7 @@ part-result-end : tie.Need-part-result-end
 part-result-end c = search needs
 
 returns : tie.Need-returns
-returns c =
-    let s = c .before .before in
-    fraction-behind (now (s .args .raw)) (s .args .point) (s .pre)
+returns c = search fractions
 
 sub-result-2 : tie.Need-sub-result-2
 sub-result-2 c = search needs
@@ -32,9 +29,7 @@ part-result-end-2 : tie.Need-part-result-end-2
 part-result-end-2 c = search needs
 
 returns-2 : tie.Need-returns-2
-returns-2 c =
-    let s = c .before .before in
-    fraction-none (now (s .args .raw)) (s .args .point) (s .pre) (c .before .if1 .left)
+returns-2 c = search fractions
 
 pub fraction-at-spec : {M : Type 1} → statement M
 fraction-at-spec =

@@ -1,12 +1,11 @@
--- `number::has_exponent` meets its contract: what is left of the number has an exponent just if the number has.
+-- `number::has_exponent` meets its contract: what is left has an exponent just if the number has.
 use Prim.Native.Nat.{_≤_, _-_}
-use mathlib.Core.Path.{_≡_, refl, _∙_}
+use mathlib.Core.Path.{_≡_, refl}
 use native.Mathlib.Omega.{arith}
 use borrow.Author.Needs.{needs}
 use lib.ListN.{length, drop}
-use denote.Ref.{now}
 use Rattle.number.specs.Number.{exponent}
-use Rattle.number.proofs.Bytes.{exponent-capital, exponent-small, exponent-more, exponent-over}
+use Rattle.number.proofs.Bytes.{exponents}
 use Rattle.number.proofs.has_exponent.Statement.{statement}
 use Rattle.number.proofs.has_exponent.Tie as tie
 
@@ -23,14 +22,10 @@ shared-slice-read-b : tie.Need-shared-slice-read-b Inv-loop μ-loop
 shared-slice-read-b c = search needs
 
 returns : tie.Need-returns Inv-loop μ-loop
-returns c =
-    let l = c .before .before .before in
-    exponent-capital (now (l .before .args .raw)) (l .loop .i) (c .before .before .loop-test .taken) (c .if1 .taken) ∙ l .loop .inv .1
+returns c = search exponents
 
 returns-2 : tie.Need-returns-2 Inv-loop μ-loop
-returns-2 c =
-    let l = c .before .before .before .before in
-    exponent-small (now (l .before .args .raw)) (l .loop .i) (c .before .before .before .loop-test .taken) (c .before .if1 .left) (c .if2 .taken) ∙ l .loop .inv .1
+returns-2 c = search exponents
 
 add-i : tie.Need-add-i Inv-loop μ-loop
 add-i c = search needs
@@ -39,14 +34,10 @@ loop-less : tie.Need-loop-less Inv-loop μ-loop
 loop-less c = search needs
 
 loop-again : tie.Need-loop-again Inv-loop μ-loop
-loop-again c =
-    let l = c .before .before .before .before in
-    (omega arith, exponent-more (now (l .before .args .raw)) (l .loop .i) (c .before .before .before .loop-test .taken) (c .before .if1 .left) (c .if2 .left) ∙ l .loop .inv .1)
+loop-again c = search exponents
 
 returns-3 : tie.Need-returns-3 Inv-loop μ-loop
-returns-3 c =
-    let l = c .before in
-    exponent-over (now (l .before .args .raw)) (l .loop .i) (c .loop-test .left) ∙ l .loop .inv .1
+returns-3 c = search exponents
 
 pub has-exponent-spec : {M : Type 1} → statement M
 has-exponent-spec =

@@ -1,15 +1,16 @@
--- `number::has_millionths` meets its contract.
-use mathlib.Core.Path.{_≡_, ap, _∙_}
+-- `number::has_millionths` meets its contract: a fraction of at most six digits has none behind them.
+use mathlib.Core.Path.{ap, _∙_}
+use native.Mathlib.Omega.{arith}
 use borrow.Author.Needs.{needs}
 use denote.Ref.{now}
 use Rattle.number.specs.Number.{allZero}
-use Rattle.number.proofs.Bytes.{zero-over}
+use Rattle.number.proofs.Bytes.{zero-none}
 use Rattle.number.proofs.Point.{rest}
 use Rattle.number.proofs.has_millionths.Statement.{statement}
 use Rattle.number.proofs.has_millionths.Tie as tie
 
 returns : tie.Need-returns
-returns c = zero-over (now (c .before .before .args .fraction)) 6 (c .if1 .taken)
+returns c = zero-none (now (c .before .before .args .fraction)) 6 (omega arith)
 
 sub-is-all-zero : tie.Need-sub-is-all-zero
 sub-is-all-zero c = search needs

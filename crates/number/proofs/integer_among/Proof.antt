@@ -1,4 +1,4 @@
--- `number::integer_among` meets its contract.
+-- `number::integer_among` meets its contract: its two tests are those of the range.
 use borrow.Author.Tests.{le-leb, lt-leb}
 use Rattle.number.proofs.integer_among.Statement.{statement}
 use Rattle.number.proofs.integer_among.Tie as tie

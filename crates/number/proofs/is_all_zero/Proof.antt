@@ -1,12 +1,11 @@
 -- `number::is_all_zero` meets its contract: what is left is all zero just if the whole is.
 use Prim.Native.Nat.{_≤_, _-_}
-use mathlib.Core.Path.{_≡_, refl, _∙_}
+use mathlib.Core.Path.{_≡_, refl}
 use native.Mathlib.Omega.{arith}
 use borrow.Author.Needs.{needs}
 use lib.ListN.{length, drop}
-use denote.Ref.{now}
 use Rattle.number.specs.Number.{allZero}
-use Rattle.number.proofs.Bytes.{zero-not, zero-more, zero-over}
+use Rattle.number.proofs.Bytes.{zeros}
 use Rattle.number.proofs.is_all_zero.Statement.{statement}
 use Rattle.number.proofs.is_all_zero.Tie as tie
 
@@ -23,9 +22,7 @@ shared-slice-read-if1 : tie.Need-shared-slice-read-if1 Inv-loop μ-loop
 shared-slice-read-if1 c = search needs
 
 returns : tie.Need-returns Inv-loop μ-loop
-returns c =
-    let l = c .before .before .before in
-    zero-not (now (l .before .args .raw)) (l .loop .i) (c .before .before .loop-test .taken) (c .if1 .taken) ∙ l .loop .inv .1
+returns c = search zeros
 
 add-i : tie.Need-add-i Inv-loop μ-loop
 add-i c = search needs
@@ -34,14 +31,10 @@ loop-less : tie.Need-loop-less Inv-loop μ-loop
 loop-less c = search needs
 
 loop-again : tie.Need-loop-again Inv-loop μ-loop
-loop-again c =
-    let l = c .before .before .before in
-    (omega arith, zero-more (now (l .before .args .raw)) (l .loop .i) (c .before .before .loop-test .taken) (c .if1 .left) ∙ l .loop .inv .1)
+loop-again c = search zeros
 
 returns-2 : tie.Need-returns-2 Inv-loop μ-loop
-returns-2 c =
-    let l = c .before in
-    zero-over (now (l .before .args .raw)) (l .loop .i) (c .loop-test .left) ∙ l .loop .inv .1
+returns-2 c = search zeros
 
 pub is-all-zero-spec : {M : Type 1} → statement M
 is-all-zero-spec =

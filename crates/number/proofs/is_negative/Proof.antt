@@ -1,4 +1,4 @@
--- `number::is_negative` meets its contract.
+-- `number::is_negative` meets its contract: the first byte tells.
 use borrow.Author.Needs.{needs}
 use denote.Ref.{now}
 use Rattle.number.proofs.Bytes.{negative-none, negative-first}
