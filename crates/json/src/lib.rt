@@ -1,5 +1,3 @@
-// JSON in UTF-8 (RFC 8259): whether some bytes are one object, where it ends, and the byte at which they are not.
-pub mod byte;
+// JSON in UTF-8 (RFC 8259): the types of its definitions. Code over them is in the crates scan, walk, moving, number and string.
 pub mod number;
 pub mod string;
-pub mod walk;

@@ -1,5 +1,5 @@
 // Moving about a text that was walked: members, elements, and the kinds of values. A value is skipped without a look for faults.
-use json::byte;
+use scan::byte;
 ghost use mathlib.Core.Path.{_≡_};
 ghost use mathlib.Core.List.{tail};
 ghost use lib.ListN.{drop};

@@ -1,5 +1,5 @@
 // Strings of a walked text, decoded as they are looked at: names compared, bytes counted and laid into a lent buffer. No copy is made to compare.
-use json::string;
+use scan::string;
 use json::string::{CharStep, InString, Letter};
 ghost use mathlib.Core.Path.{_≡_};
 ghost use mathlib.Core.List.{[], _∷_};

@@ -1,6 +1,5 @@
 // The walk for a C program that times it (bench/walk): the end of the one object, or the refusal's place and number.
-use json::walk;
-use json::walk::End;
+use walk::End;
 
 // The place in the high bits, and in the low two 0 for an end, 2 for refusal 2 and 3 for refusal 3.
 #[no_mangle]

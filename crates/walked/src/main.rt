@@ -1,7 +1,6 @@
 // Runs the walk over outside vectors on standard input, a line each: t (a text) or r (a run) and the bytes in hexadecimal.
 // Answers `2 PLACE`, `3 PLACE` or `taken`, a line each.
-use json::walk;
-use json::walk::End;
+use walk::End;
 
 // Of a line: its letter, how many of its bytes are in the buffer, and the digit before the next one.
 struct Line {

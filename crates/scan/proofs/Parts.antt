@@ -1,0 +1,102 @@
+-- Strings, numbers and words: what one byte does.
+use Prim.Native.Nat.{ℕ, _+_, _<_, _≤_}
+use mathlib.Core.Path.{_≡_, refl, _∙_}
+use mathlib.Core.List.{List, [], _∷_}
+use mathlib.Core.Bool.{Bool, true, false, cond, false≢true}
+use lib.ListN.{length, getD, drop, drop-of-length-le}
+use lib.Seq.{drop-cons}
+use lib.Dec.{ltb}
+use native.Mathlib.Numerals.{add-one}
+use native.Mathlib.Omega.{arith}
+use borrow.Author.Tests.{eq-eqb, ne-eqb}
+use Rattle.json.specs.Rows.{look}
+use Rattle.json.specs.String.{after, lead, isAscii}
+use Rattle.json.specs.Number.{onward, mayEnd}
+use Rattle.scan.specs.Part.{past, torn, Stop, stringStop, Skips, numberStop, wordStop}
+use Rattle.scan.proofs.Moves.{Passes}
+use Rattle.json.specs.declared.string.Lead.{Lead}
+use Rattle.json.specs.declared.string.Lead.the-variants.{Control, Ascii, Quote, Backslash}
+use Rattle.json.specs.declared.string.InString.{InString}
+use Rattle.json.specs.declared.string.InString.the-variants.{Plain}
+use Rattle.json.specs.declared.string.CharStep.the-variants.{Goes, Closes, Refuses}
+use Rattle.json.specs.declared.number.InNumber.{InNumber}
+use Rattle.json.specs.declared.number.DigitStep.the-variants.{Onward, Over}
+
+-- ---- strings
+module _ (c : InString) (b : ℕ) where
+  pub string-goes : {n : InString} → after c b ≡ Goes n → (s : List ℕ) → stringStop c (b ∷ s) ≡ stringStop n s
+  unfolding stringStop
+  string-goes e s = rw (e, stringStop)
+
+  pub string-closes : after c b ≡ Closes → (s : List ℕ) → stringStop c (b ∷ s) ≡ past s
+  unfolding stringStop
+  string-closes e s = rw (e, stringStop)
+
+  pub string-refuses : after c b ≡ Refuses → (s : List ℕ) → stringStop c (b ∷ s) ≡ torn (b ∷ s)
+  unfolding stringStop
+  string-refuses e s = rw (e, stringStop)
+
+pub string-none : (c : InString) → stringStop c [] ≡ torn []
+unfolding stringStop
+string-none c = refl
+
+pub skips : {c : InString} {text : List ℕ} {at i : ℕ} → Passes (stringStop c) (stringStop c) text at i → Skips c text at i
+skips p = record { same = p .same; ahead = p .ahead; inside = p .inside }
+
+pub skipped : {c : InString} {g : List ℕ → Stop} {text : List ℕ} {at i r : ℕ} → Passes (stringStop c) g text at i → Skips c text i r → Passes (stringStop c) g text at r
+skipped p k = record { same = k .same ∙ p .same; ahead = omega (arith, p .ahead, k .ahead); inside = λ h. k .inside (p .inside h) }
+
+-- a byte that is plain ASCII is a character
+ascii-lead : (a b c d e f : Bool) (rest : Lead) → cond a false (cond b true (cond c false (cond d true (cond e false (cond f true false))))) ≡ true
+    → cond a Control (cond b Ascii (cond c Quote (cond d Ascii (cond e Backslash (cond f Ascii rest))))) ≡ Ascii
+ascii-lead true b c d e f rest h = absurd (false≢true h)
+ascii-lead false true c d e f rest h = refl
+ascii-lead false false true d e f rest h = absurd (false≢true h)
+ascii-lead false false false true e f rest h = refl
+ascii-lead false false false false true f rest h = absurd (false≢true h)
+ascii-lead false false false false false true rest h = refl
+ascii-lead false false false false false false rest h = absurd (false≢true h)
+
+is-lead : (b : ℕ) → isAscii b ≡ true → lead b ≡ Ascii
+unfolding isAscii lead look
+is-lead b h = ascii-lead (ltb b 32) (ltb b 34) (ltb b 35) (ltb b 92) (ltb b 93) (ltb b 128) _ h
+
+is-plain : (b : ℕ) → isAscii b ≡ true → after Plain b ≡ Goes Plain
+unfolding after
+is-plain b h = rw (is-lead b h)
+
+pub ascii-goes : (b : ℕ) → isAscii b ≡ true → (s : List ℕ) → stringStop Plain (b ∷ s) ≡ stringStop Plain s
+ascii-goes b h = string-goes Plain b (is-plain b h)
+
+-- ---- numbers
+module _ (n : InNumber) (b : ℕ) where
+  pub number-goes : {m : InNumber} → onward n b ≡ Onward m → (s : List ℕ) → numberStop n (b ∷ s) ≡ numberStop m s
+  unfolding numberStop
+  number-goes e s = rw (e, numberStop)
+
+  pub number-ends : (t : Bool) → onward n b ≡ Over → mayEnd n ≡ t → (s : List ℕ) → numberStop n (b ∷ s) ≡ cond t (past (b ∷ s)) (torn (b ∷ s))
+  unfolding numberStop
+  number-ends t e g s = rw (e, numberStop, g)
+
+pub number-none : (n : InNumber) (t : Bool) → mayEnd n ≡ t → numberStop n [] ≡ cond t (past []) (torn [])
+unfolding numberStop
+number-none n t g = rw g
+
+-- ---- words
+module _ (word : List ℕ) (k : ℕ) where
+  module _ (h : k < length word) where
+    pub word-goes : (b : ℕ) → b ≡ getD word k 0 → (s : List ℕ) → wordStop (drop k word) (b ∷ s) ≡ wordStop (drop (k + 1) word) s
+    unfolding wordStop
+    word-goes b e s = rw (drop-cons word k 0 h, eq-eqb b (getD word k 0) e, add-one)
+
+    pub word-differs : (b : ℕ) → (b ≡ getD word k 0 → ⊥) → (s : List ℕ) → wordStop (drop k word) (b ∷ s) ≡ torn (b ∷ s)
+    unfolding wordStop
+    word-differs b e s = rw (drop-cons word k 0 h, ne-eqb b (getD word k 0) e)
+
+    pub word-cut : wordStop (drop k word) [] ≡ torn []
+    unfolding wordStop
+    word-cut = rw (drop-cons word k 0 h)
+
+  pub word-done : length word ≤ k → (s : List ℕ) → wordStop (drop k word) s ≡ past s
+  unfolding wordStop
+  word-done h s = rw (drop-of-length-le word h)

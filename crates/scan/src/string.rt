@@ -1,0 +1,270 @@
+// The inside of a string, byte by byte, and where a string ends.
+use crate::byte;
+use crate::byte::Part;
+use json::string::{CharStep, InString, Lead, Letter};
+ghost use mathlib.Core.Path.{_≡_};
+ghost use lib.ListN.{drop};
+ghost use Rattle.json.specs.String.{lead, letter, after, afterLead, afterLetter, goIf, isAscii};
+ghost use Rattle.scan.specs.Part.{stringStop, Stops, Skips};
+ghost use Rattle.json.specs.declared.string.InString.the-variants.{Plain};
+
+pub fn lead_of(b: u8) -> Lead
+    ensures { λ r. ⌜ r ≡ lead b ⌝ }
+{
+    if b < 32 {
+        return Lead::Control;
+    }
+    if b < 34 {
+        return Lead::Ascii;
+    }
+    if b < 35 {
+        return Lead::Quote;
+    }
+    if b < 92 {
+        return Lead::Ascii;
+    }
+    if b < 93 {
+        return Lead::Backslash;
+    }
+    if b < 128 {
+        return Lead::Ascii;
+    }
+    if b < 0xC2 {
+        return Lead::Stray;
+    }
+    if b < 0xE0 {
+        return Lead::Two;
+    }
+    if b < 0xE1 {
+        return Lead::E0;
+    }
+    if b < 0xED {
+        return Lead::Three;
+    }
+    if b < 0xEE {
+        return Lead::Ed;
+    }
+    if b < 0xF0 {
+        return Lead::Three;
+    }
+    if b < 0xF1 {
+        return Lead::F0;
+    }
+    if b < 0xF4 {
+        return Lead::Four;
+    }
+    if b < 0xF5 {
+        return Lead::F4;
+    }
+    Lead::Stray
+}
+
+pub fn letter_of(b: u8) -> Letter
+    ensures { λ r. ⌜ r ≡ letter b ⌝ }
+{
+    if b < 34 {
+        return Letter::NoLetter;
+    }
+    if b < 35 {
+        return Letter::Means(34);
+    }
+    if b < 47 {
+        return Letter::NoLetter;
+    }
+    if b < 48 {
+        return Letter::Means(47);
+    }
+    if b < 92 {
+        return Letter::NoLetter;
+    }
+    if b < 93 {
+        return Letter::Means(92);
+    }
+    if b < 98 {
+        return Letter::NoLetter;
+    }
+    if b < 99 {
+        return Letter::Means(8);
+    }
+    if b < 102 {
+        return Letter::NoLetter;
+    }
+    if b < 103 {
+        return Letter::Means(12);
+    }
+    if b < 110 {
+        return Letter::NoLetter;
+    }
+    if b < 111 {
+        return Letter::Means(10);
+    }
+    if b < 114 {
+        return Letter::NoLetter;
+    }
+    if b < 115 {
+        return Letter::Means(13);
+    }
+    if b < 116 {
+        return Letter::NoLetter;
+    }
+    if b < 117 {
+        return Letter::Means(9);
+    }
+    if b < 118 {
+        return Letter::Unicode;
+    }
+    Letter::NoLetter
+}
+
+// To this state where the test holds.
+fn go_if(test: bool, next: InString) -> CharStep
+    ensures { λ r. ⌜ r ≡ goIf test next ⌝ }
+{
+    if test {
+        CharStep::Goes(next)
+    } else {
+        CharStep::Refuses
+    }
+}
+
+fn after_lead(b: Lead) -> CharStep
+    ensures { λ r. ⌜ r ≡ afterLead b ⌝ }
+{
+    match b {
+        Lead::Control => CharStep::Refuses,
+        Lead::Ascii => CharStep::Goes(InString::Plain),
+        Lead::Quote => CharStep::Closes,
+        Lead::Backslash => CharStep::Goes(InString::Escape),
+        Lead::Stray => CharStep::Refuses,
+        Lead::Two => CharStep::Goes(InString::Tail1),
+        Lead::E0 => CharStep::Goes(InString::AfterE0),
+        Lead::Three => CharStep::Goes(InString::Tail2),
+        Lead::Ed => CharStep::Goes(InString::AfterEd),
+        Lead::F0 => CharStep::Goes(InString::AfterF0),
+        Lead::Four => CharStep::Goes(InString::Tail3),
+        Lead::F4 => CharStep::Goes(InString::AfterF4),
+    }
+}
+
+fn after_letter(l: Letter) -> CharStep
+    ensures { λ r. ⌜ r ≡ afterLetter l ⌝ }
+{
+    match l {
+        Letter::Means(_) => CharStep::Goes(InString::Plain),
+        Letter::Unicode => CharStep::Goes(InString::Unit),
+        Letter::NoLetter => CharStep::Refuses,
+    }
+}
+
+fn after_unit(b: u8) -> CharStep
+    ensures { λ r. ⌜ r ≡ after InString.Unit b ⌝ }
+{
+    if byte::is_d(b) {
+        return CharStep::Goes(InString::UnitD);
+    }
+    go_if(byte::is_hex(b), InString::Digit3)
+}
+
+fn after_unit_d(b: u8) -> CharStep
+    ensures { λ r. ⌜ r ≡ after InString.UnitD b ⌝ }
+{
+    if byte::within(48, 56, b) {
+        return CharStep::Goes(InString::Digit2);
+    }
+    go_if(byte::is_8_to_b(b), InString::High2)
+}
+
+// What a byte does in a state.
+pub fn char_after(state: InString, b: u8) -> CharStep
+    ensures { λ r. ⌜ r ≡ after state b ⌝ }
+{
+    match state {
+        InString::Plain => after_lead(lead_of(b)),
+        InString::Escape => after_letter(letter_of(b)),
+        InString::Unit => after_unit(b),
+        InString::UnitD => after_unit_d(b),
+        InString::Digit3 => go_if(byte::is_hex(b), InString::Digit2),
+        InString::Digit2 => go_if(byte::is_hex(b), InString::Digit1),
+        InString::Digit1 => go_if(byte::is_hex(b), InString::Plain),
+        InString::High2 => go_if(byte::is_hex(b), InString::High1),
+        InString::High1 => go_if(byte::is_hex(b), InString::Slash),
+        InString::Slash => go_if(b == 92, InString::LetterU),
+        InString::LetterU => go_if(b == 117, InString::SecondD),
+        InString::SecondD => go_if(byte::is_d(b), InString::SecondC),
+        InString::SecondC => go_if(byte::is_c_to_f(b), InString::Digit2),
+        InString::Tail3 => go_if(byte::within(0x80, 0xC0, b), InString::Tail2),
+        InString::Tail2 => go_if(byte::within(0x80, 0xC0, b), InString::Tail1),
+        InString::Tail1 => go_if(byte::within(0x80, 0xC0, b), InString::Plain),
+        InString::AfterE0 => go_if(byte::within(0xA0, 0xC0, b), InString::Tail1),
+        InString::AfterEd => go_if(byte::within(0x80, 0xA0, b), InString::Tail1),
+        InString::AfterF0 => go_if(byte::within(0x90, 0xC0, b), InString::Tail2),
+        InString::AfterF4 => go_if(byte::within(0x80, 0x90, b), InString::Tail2),
+    }
+}
+
+// The first place from `at` on whose byte is no plain ASCII character: most strings are nothing else.
+fn ascii_end(text: &[u8], at: usize) -> usize
+    ensures { λ r. ⌜ Skips Plain (now (text .entry)) at r ⌝ }
+{
+    let mut i = at;
+    while i < text.len() {
+        if is_ascii(text[i]) {
+            i += 1;
+        } else {
+            return i;
+        }
+    }
+    i
+}
+
+pub fn is_ascii(b: u8) -> bool
+    ensures { λ r. ⌜ r ≡ isAscii b ⌝ }
+{
+    if b < 32 {
+        return false;
+    }
+    if b < 34 {
+        return true;
+    }
+    if b < 35 {
+        return false;
+    }
+    if b < 92 {
+        return true;
+    }
+    if b < 93 {
+        return false;
+    }
+    if b < 128 {
+        return true;
+    }
+    false
+}
+
+fn ascii_skipped(text: &[u8], state: InString, at: usize) -> usize
+    ensures { λ r. ⌜ Skips state (now (text .entry)) at r ⌝ }
+{
+    match state {
+        InString::Plain => ascii_end(text, at),
+        _ => at,
+    }
+}
+
+// The place behind the closing quote: `at` is behind the opening one.
+pub fn string_end(text: &[u8], at: usize) -> Part
+    ensures { λ r. ⌜ Stops (now (text .entry)) at (stringStop Plain (drop at (now (text .entry)))) r ⌝ }
+{
+    let mut i = ascii_end(text, at);
+    let mut state = InString::Plain;
+    while i < text.len() {
+        match char_after(state, text[i]) {
+            CharStep::Goes(next) => {
+                state = next;
+                i = ascii_skipped(text, next, i + 1);
+            }
+            CharStep::Closes => return Part::Past(i + 1),
+            CharStep::Refuses => return Part::Torn(i),
+        }
+    }
+    Part::Torn(text.len())
+}

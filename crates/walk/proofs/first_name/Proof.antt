@@ -1,0 +1,34 @@
+-- The object's closing brace, or a name.
+use borrow.Author.Needs.{needs}
+use borrow.Author.Tests.{ne-eqb}
+use Rattle.json.specs.Walk as W
+use Rattle.json.specs.Walk.{step}
+use Rattle.walk.proofs.Walks.{walk-at}
+use Rattle.walk.proofs.first_name.Statement.{statement}
+use Rattle.walk.proofs.first_name.Tie as tie
+
+shared-slice-read-if1 : tie.Need-shared-slice-read-if1
+shared-slice-read-if1 c = search needs
+
+shut-requires : tie.Need-shut-requires
+shut-requires c κs = search needs
+
+returns : tie.Need-returns
+unfolding step
+returns c =
+    let s = c .before .before .before .before in
+    rw (walk-at _ _ (s .pre .0) W.firstName _, s .pre .1, c .before .if1 .taken) (c .shut .ensures)
+
+name-requires : tie.Need-name-requires
+name-requires c κs = search needs
+
+returns-2 : tie.Need-returns-2
+unfolding step
+returns-2 c =
+    let s = c .before .before .before .before in
+    rw (walk-at _ _ (s .pre .0) W.firstName _, s .pre .1, ne-eqb _ 125 (c .before .if1 .left))
+    (rw (walk-at _ _ (s .pre .0) W.name _, s .pre .1) at (c .name .ensures))
+
+pub first-name-spec : {M : Type 1} → statement M
+first-name-spec =
+    tie.close (tie.spec shared-slice-read-if1 shut-requires returns name-requires returns-2)
