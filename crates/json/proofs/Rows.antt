@@ -1,9 +1,11 @@
 -- What a table says of a byte, row by row.
 use Prim.Native.Nat.{ℕ, _<_, _≤_}
-use mathlib.Core.Path.{_≡_, refl}
-use borrow.Author.Tests.{lt-ltb, le-ltb}
+use mathlib.Core.Path.{_≡_, refl, sym, ap, _∙_}
+use mathlib.Core.Bool.{Bool, true, false}
+use lib.Dec.{leb}
+use borrow.Author.Tests.{lt-ltb, le-ltb, leb-true}
 use native.Mathlib.Omega.{arith}
-use Rattle.json.specs.Rows.{Rows, else, below, look}
+use Rattle.json.specs.Rows.{Rows, else, below, look, choose}
 
 module _ (A : Type 0) where
   -- the row's bound is above the byte
@@ -21,3 +23,44 @@ module _ (A : Type 0) where
   last b a = refl
 
 pub ruleset rows = (hit, miss, last, arith)
+
+-- Where the code's tests are in another order than the rows, all the bytes from lo on and below hi stand in one row, which is computed.
+module _ {A : Type 0} where
+  abbrev from : ℕ → Rows A → Rows A
+  from lo (else a) = else a
+  from lo (below n a rows) = choose (leb n lo) (λ _. from lo rows) λ _. below n a rows
+
+  abbrev upTo : ℕ → Rows A → Rows A
+  upTo hi (else a) = else a
+  upTo hi (below n a rows) = choose (leb hi n) (λ _. else a) λ _. below n a rows
+
+  look-from : (lo b : ℕ) (rows : Rows A) → lo ≤ b → look b (from lo rows) ≡ look b rows
+  unfolding look
+  look-from lo b (else a) l = refl
+  look-from lo b (below n a rows) l = by (leb n lo) refl (look-from lo b rows l)
+    where
+      by : (t : Bool) → leb n lo ≡ t → look b (from lo rows) ≡ look b rows
+          → look b (choose t (λ _. from lo rows) λ _. below n a rows) ≡ look b (below n a rows)
+      by true e more = let g : n ≤ lo = leb-true n lo e in miss A b n (look b (from lo rows)) a rows (omega arith) more
+      by false e more = refl
+
+  look-up-to : (hi b : ℕ) (rows : Rows A) → b < hi → look b (upTo hi rows) ≡ look b rows
+  unfolding look
+  look-up-to hi b (else a) h = refl
+  look-up-to hi b (below n a rows) h = by (leb hi n) refl
+    where
+      by : (t : Bool) → leb hi n ≡ t → look b (choose t (λ _. else a) λ _. below n a rows) ≡ look b (below n a rows)
+      by true e = let g : hi ≤ n = leb-true hi n e in hit A b n a rows (omega arith)
+      by false e = refl
+
+pub between : (lo hi : ℕ) (A : Type 0) (b : ℕ) (a : A) (rows : Rows A) → lo ≤ b → b < hi → upTo hi (from lo rows) ≡ else a → a ≡ look b rows
+unfolding look
+between lo hi A b a rows l h e = sym (ap (look b) e) ∙ look-up-to hi b (from lo rows) h ∙ look-from lo b rows l
+
+pub beyond : (lo : ℕ) (A : Type 0) (b : ℕ) (a : A) (rows : Rows A) → lo ≤ b → from lo rows ≡ else a → a ≡ look b rows
+unfolding look
+beyond lo A b a rows l e = sym (ap (look b) e) ∙ look-from lo b rows l
+
+pub under : (hi : ℕ) (A : Type 0) (b : ℕ) (a : A) (rows : Rows A) → b < hi → upTo hi rows ≡ else a → a ≡ look b rows
+unfolding look
+under hi A b a rows h e = sym (ap (look b) e) ∙ look-up-to hi b rows h

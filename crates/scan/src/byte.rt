@@ -6,22 +6,22 @@ ghost use Rattle.json.specs.Tree.{Moves};
 pub fn is_blank(b: u8) -> bool
     ensures { λ r. ⌜ r ≡ isBlank b ⌝ }
 {
-    if b < 9 {
+    if 33 <= b {
         return false;
     }
-    if b < 11 {
+    if 32 <= b {
         return true;
     }
-    if b < 13 {
+    if 14 <= b {
         return false;
     }
-    if b < 14 {
+    if 13 <= b {
         return true;
     }
-    if b < 32 {
+    if 11 <= b {
         return false;
     }
-    if b < 33 {
+    if 9 <= b {
         return true;
     }
     false
@@ -49,16 +49,16 @@ pub fn is_hex(b: u8) -> bool
     if b < 58 {
         return true;
     }
-    if b < 65 {
+    if 103 <= b {
         return false;
     }
-    if b < 71 {
+    if 97 <= b {
         return true;
     }
-    if b < 97 {
+    if 71 <= b {
         return false;
     }
-    if b < 103 {
+    if 65 <= b {
         return true;
     }
     false

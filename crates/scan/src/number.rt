@@ -71,29 +71,29 @@ fn after_zero(b: u8) -> DigitStep
 fn after_whole(b: u8) -> DigitStep
     ensures { λ r. ⌜ r ≡ onward InNumber.Whole b ⌝ }
 {
-    if b < 46 {
+    if 58 <= b {
+        if b < 69 {
+            return DigitStep::Over;
+        }
+        if b < 70 {
+            return DigitStep::Onward(InNumber::Mark);
+        }
+        if b < 101 {
+            return DigitStep::Over;
+        }
+        if b < 102 {
+            return DigitStep::Onward(InNumber::Mark);
+        }
         return DigitStep::Over;
     }
-    if b < 47 {
-        return DigitStep::Onward(InNumber::Point);
-    }
-    if b < 48 {
-        return DigitStep::Over;
-    }
-    if b < 58 {
+    if 48 <= b {
         return DigitStep::Onward(InNumber::Whole);
     }
-    if b < 69 {
+    if 47 <= b {
         return DigitStep::Over;
     }
-    if b < 70 {
-        return DigitStep::Onward(InNumber::Mark);
-    }
-    if b < 101 {
-        return DigitStep::Over;
-    }
-    if b < 102 {
-        return DigitStep::Onward(InNumber::Mark);
+    if 46 <= b {
+        return DigitStep::Onward(InNumber::Point);
     }
     DigitStep::Over
 }

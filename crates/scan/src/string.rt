@@ -4,6 +4,7 @@ use crate::byte::Part;
 use json::string::{CharStep, InString, Lead, Letter};
 ghost use mathlib.Core.Path.{_≡_};
 ghost use lib.ListN.{drop};
+ghost use Rattle.json.specs.Byte.{isHex, within as between};
 ghost use Rattle.json.specs.String.{lead, letter, after, afterLead, afterLetter, goIf, isAscii};
 ghost use Rattle.scan.specs.Part.{stringStop, Stops, Skips};
 ghost use Rattle.json.specs.declared.string.InString.the-variants.{Plain};
@@ -11,52 +12,52 @@ ghost use Rattle.json.specs.declared.string.InString.the-variants.{Plain};
 pub fn lead_of(b: u8) -> Lead
     ensures { λ r. ⌜ r ≡ lead b ⌝ }
 {
-    if b < 32 {
-        return Lead::Control;
-    }
-    if b < 34 {
-        return Lead::Ascii;
-    }
-    if b < 35 {
-        return Lead::Quote;
-    }
-    if b < 92 {
-        return Lead::Ascii;
-    }
-    if b < 93 {
-        return Lead::Backslash;
-    }
-    if b < 128 {
-        return Lead::Ascii;
-    }
-    if b < 0xC2 {
+    if 128 <= b {
+        if b < 0xC2 {
+            return Lead::Stray;
+        }
+        if b < 0xE0 {
+            return Lead::Two;
+        }
+        if b < 0xE1 {
+            return Lead::E0;
+        }
+        if b < 0xED {
+            return Lead::Three;
+        }
+        if b < 0xEE {
+            return Lead::Ed;
+        }
+        if b < 0xF0 {
+            return Lead::Three;
+        }
+        if b < 0xF1 {
+            return Lead::F0;
+        }
+        if b < 0xF4 {
+            return Lead::Four;
+        }
+        if b < 0xF5 {
+            return Lead::F4;
+        }
         return Lead::Stray;
     }
-    if b < 0xE0 {
-        return Lead::Two;
+    if 93 <= b {
+        return Lead::Ascii;
     }
-    if b < 0xE1 {
-        return Lead::E0;
+    if 92 <= b {
+        return Lead::Backslash;
     }
-    if b < 0xED {
-        return Lead::Three;
+    if 35 <= b {
+        return Lead::Ascii;
     }
-    if b < 0xEE {
-        return Lead::Ed;
+    if 34 <= b {
+        return Lead::Quote;
     }
-    if b < 0xF0 {
-        return Lead::Three;
+    if 32 <= b {
+        return Lead::Ascii;
     }
-    if b < 0xF1 {
-        return Lead::F0;
-    }
-    if b < 0xF4 {
-        return Lead::Four;
-    }
-    if b < 0xF5 {
-        return Lead::F4;
-    }
-    Lead::Stray
+    Lead::Control
 }
 
 pub fn letter_of(b: u8) -> Letter
@@ -68,50 +69,50 @@ pub fn letter_of(b: u8) -> Letter
     if b < 35 {
         return Letter::Means(34);
     }
-    if b < 47 {
+    if 118 <= b {
         return Letter::NoLetter;
     }
-    if b < 48 {
-        return Letter::Means(47);
+    if 117 <= b {
+        return Letter::Unicode;
     }
-    if b < 92 {
-        return Letter::NoLetter;
-    }
-    if b < 93 {
-        return Letter::Means(92);
-    }
-    if b < 98 {
-        return Letter::NoLetter;
-    }
-    if b < 99 {
-        return Letter::Means(8);
-    }
-    if b < 102 {
-        return Letter::NoLetter;
-    }
-    if b < 103 {
-        return Letter::Means(12);
-    }
-    if b < 110 {
-        return Letter::NoLetter;
-    }
-    if b < 111 {
-        return Letter::Means(10);
-    }
-    if b < 114 {
-        return Letter::NoLetter;
-    }
-    if b < 115 {
-        return Letter::Means(13);
-    }
-    if b < 116 {
-        return Letter::NoLetter;
-    }
-    if b < 117 {
+    if 116 <= b {
         return Letter::Means(9);
     }
-    if b < 118 {
-        return Letter::Unicode;
+    if 115 <= b {
+        return Letter::NoLetter;
+    }
+    if 114 <= b {
+        return Letter::Means(13);
+    }
+    if 111 <= b {
+        return Letter::NoLetter;
+    }
+    if 110 <= b {
+        return Letter::Means(10);
+    }
+    if 103 <= b {
+        return Letter::NoLetter;
+    }
+    if 102 <= b {
+        return Letter::Means(12);
+    }
+    if 99 <= b {
+        return Letter::NoLetter;
+    }
+    if 98 <= b {
+        return Letter::Means(8);
+    }
+    if 93 <= b {
+        return Letter::NoLetter;
+    }
+    if 92 <= b {
+        return Letter::Means(92);
+    }
+    if 48 <= b {
+        return Letter::NoLetter;
+    }
+    if 47 <= b {
+        return Letter::Means(47);
     }
     Letter::NoLetter
 }
@@ -125,6 +126,18 @@ fn go_if(test: bool, next: InString) -> CharStep
     } else {
         CharStep::Refuses
     }
+}
+
+fn if_hex(b: u8, next: InString) -> CharStep
+    ensures { λ r. ⌜ r ≡ goIf (isHex b) next ⌝ }
+{
+    go_if(byte::is_hex(b), next)
+}
+
+fn if_within(lo: u8, hi: u8, b: u8, next: InString) -> CharStep
+    ensures { λ r. ⌜ r ≡ goIf (between lo hi b) next ⌝ }
+{
+    go_if(byte::within(lo, hi, b), next)
 }
 
 fn after_lead(b: Lead) -> CharStep
@@ -162,7 +175,7 @@ fn after_unit(b: u8) -> CharStep
     if byte::is_d(b) {
         return CharStep::Goes(InString::UnitD);
     }
-    go_if(byte::is_hex(b), InString::Digit3)
+    if_hex(b, InString::Digit3)
 }
 
 fn after_unit_d(b: u8) -> CharStep
@@ -183,22 +196,22 @@ pub fn char_after(state: InString, b: u8) -> CharStep
         InString::Escape => after_letter(letter_of(b)),
         InString::Unit => after_unit(b),
         InString::UnitD => after_unit_d(b),
-        InString::Digit3 => go_if(byte::is_hex(b), InString::Digit2),
-        InString::Digit2 => go_if(byte::is_hex(b), InString::Digit1),
-        InString::Digit1 => go_if(byte::is_hex(b), InString::Plain),
-        InString::High2 => go_if(byte::is_hex(b), InString::High1),
-        InString::High1 => go_if(byte::is_hex(b), InString::Slash),
+        InString::Digit3 => if_hex(b, InString::Digit2),
+        InString::Digit2 => if_hex(b, InString::Digit1),
+        InString::Digit1 => if_hex(b, InString::Plain),
+        InString::High2 => if_hex(b, InString::High1),
+        InString::High1 => if_hex(b, InString::Slash),
         InString::Slash => go_if(b == 92, InString::LetterU),
         InString::LetterU => go_if(b == 117, InString::SecondD),
         InString::SecondD => go_if(byte::is_d(b), InString::SecondC),
         InString::SecondC => go_if(byte::is_c_to_f(b), InString::Digit2),
-        InString::Tail3 => go_if(byte::within(0x80, 0xC0, b), InString::Tail2),
-        InString::Tail2 => go_if(byte::within(0x80, 0xC0, b), InString::Tail1),
-        InString::Tail1 => go_if(byte::within(0x80, 0xC0, b), InString::Plain),
-        InString::AfterE0 => go_if(byte::within(0xA0, 0xC0, b), InString::Tail1),
-        InString::AfterEd => go_if(byte::within(0x80, 0xA0, b), InString::Tail1),
-        InString::AfterF0 => go_if(byte::within(0x90, 0xC0, b), InString::Tail2),
-        InString::AfterF4 => go_if(byte::within(0x80, 0x90, b), InString::Tail2),
+        InString::Tail3 => if_within(0x80, 0xC0, b, InString::Tail2),
+        InString::Tail2 => if_within(0x80, 0xC0, b, InString::Tail1),
+        InString::Tail1 => if_within(0x80, 0xC0, b, InString::Plain),
+        InString::AfterE0 => if_within(0xA0, 0xC0, b, InString::Tail1),
+        InString::AfterEd => if_within(0x80, 0xA0, b, InString::Tail1),
+        InString::AfterF0 => if_within(0x90, 0xC0, b, InString::Tail2),
+        InString::AfterF4 => if_within(0x80, 0x90, b, InString::Tail2),
     }
 }
 
@@ -220,22 +233,22 @@ fn ascii_end(text: &[u8], at: usize) -> usize
 pub fn is_ascii(b: u8) -> bool
     ensures { λ r. ⌜ r ≡ isAscii b ⌝ }
 {
-    if b < 32 {
+    if 128 <= b {
         return false;
     }
-    if b < 34 {
+    if 93 <= b {
         return true;
     }
-    if b < 35 {
+    if 92 <= b {
         return false;
     }
-    if b < 92 {
+    if 35 <= b {
         return true;
     }
-    if b < 93 {
+    if 34 <= b {
         return false;
     }
-    if b < 128 {
+    if 32 <= b {
         return true;
     }
     false
