@@ -1,3 +1,5 @@
 -- What the proofs of other crates use.
 pub mod Rows
 pub mod Places
+pub mod Passes
+pub mod Moves

@@ -3,5 +3,6 @@ pub mod Byte
 pub mod Tree
 pub mod String
 pub mod Number
+pub mod Part
 pub mod Grammar
 pub mod Walk

@@ -1,3 +1,4 @@
-// JSON in UTF-8 (RFC 8259): the types of its definitions. Code over them is in the crates scan, walk, moving, number and string.
+// JSON in UTF-8 (RFC 8259): its definitions, and the types that they use.
 pub mod number;
+pub mod part;
 pub mod string;

@@ -1,5 +1,4 @@
 -- What the proofs of several functions use.
-pub mod Moves
-mod Rows
+mod Kinds
 mod Skips
 mod Counts

@@ -13,7 +13,7 @@ use Rattle.json.specs.Byte.{isNumeric, blanked}
 use Rattle.json.specs.Tree.{Place, Moves}
 use Rattle.moving.specs.declared.Kind.{Kind}
 use Rattle.moving.specs.Moving.{firstByte, kindOf, behindString, behindEscape, opens, closes, behindBracket, inQuotes, escaped, behindNumber, behindKind, behindValue, overComma}
-use Rattle.moving.proofs.Moves.{moves-as}
+use Rattle.json.proofs.Moves.{moves-as}
 
 -- Strings: the closing quote, a backslash and any other byte.
 module _ (b : ℕ) where

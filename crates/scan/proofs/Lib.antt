@@ -1,4 +1,3 @@
--- What the proofs of several functions use, and that each contract allows one answer.
-pub mod Moves
-pub mod Parts
-pub mod Determined
+-- What the proofs of several functions use.
+pub mod Blanks
+pub mod Strings

@@ -124,12 +124,6 @@ pub fn is_c_to_f(b: u8) -> bool
     false
 }
 
-// Where a part of a text ends, or the first byte that breaks it.
-pub enum Part {
-    Past(usize),
-    Torn(usize),
-}
-
 // The first place from `at` on whose byte is no blank.
 pub fn blanks_end(text: &[u8], at: usize) -> usize
     ensures { λ r. ⌜ Moves blanked (now (text .entry)) at r ⌝ }

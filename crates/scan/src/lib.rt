@@ -1,4 +1,3 @@
-// Bytes by their kinds, and where a string, a number or blanks end.
+// Bytes by their kinds, and where blanks and strings end.
 pub mod byte;
-pub mod number;
 pub mod string;

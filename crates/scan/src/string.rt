@@ -1,12 +1,12 @@
 // The inside of a string, byte by byte, and where a string ends.
 use crate::byte;
-use crate::byte::Part;
+use json::part::Part;
 use json::string::{CharStep, InString, Lead, Letter};
 ghost use mathlib.Core.Path.{_≡_};
 ghost use lib.ListN.{drop};
 ghost use Rattle.json.specs.Byte.{isHex, within as between};
 ghost use Rattle.json.specs.String.{lead, letter, after, afterLead, afterLetter, goIf, isAscii};
-ghost use Rattle.scan.specs.Part.{stringStop, Stops, Skips};
+ghost use Rattle.json.specs.Part.{stringStop, Stops, Skips};
 ghost use Rattle.json.specs.declared.string.InString.the-variants.{Plain};
 
 pub fn lead_of(b: u8) -> Lead

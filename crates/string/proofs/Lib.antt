@@ -1,5 +1,4 @@
 -- What the proofs of several functions use.
-mod Rows
 mod Ahead
 mod Lengths
 mod Same

@@ -13,7 +13,7 @@ use Rattle.json.specs.Byte.{isBlank, blanked}
 use Rattle.json.specs.Tree.{Moves}
 use Rattle.json.specs.String.{after}
 use Rattle.json.specs.Number.{onward, mayEnd}
-use Rattle.scan.specs.Part.{Stop, past, torn, stringStop, numberStop, wordStop, Stops}
+use Rattle.json.specs.Part.{Stop, past, torn, stringStop, numberStop, wordStop, Stops}
 use Rattle.json.specs.Walk as W
 use Rattle.json.specs.Walk.{Frame, aList, anObject, Next, go, onto, step, stepChars, walk, Walked, end, refused2}
 use Rattle.walk.specs.Turn.{modeOf, frames, Open, steps, behindPart, plainStop, Turned}
@@ -25,14 +25,16 @@ use Rattle.json.specs.declared.number.InNumber.{InNumber}
 use Rattle.json.specs.declared.number.InNumber.the-variants.{Start}
 use Rattle.json.specs.declared.number.DigitStep.{DigitStep}
 use Rattle.json.specs.declared.number.DigitStep.the-variants.{Onward, Over}
-use Rattle.scan.specs.declared.byte.Part.{Part}
-use Rattle.scan.specs.declared.byte.Part.the-variants.{Past, Torn}
+use Rattle.json.specs.declared.part.Part.{Part}
+use Rattle.json.specs.declared.part.Part.the-variants.{Past, Torn}
 use Rattle.walk.specs.declared.Mode.{Mode}
 use Rattle.walk.specs.declared.Mode.the-variants.{Value, FirstElement, FirstName, Name, Colon, Behind}
 use Rattle.walk.specs.declared.Walk.{Walk}
 use Rattle.walk.specs.declared.Turn.the-variants.{Go}
-use Rattle.scan.proofs.Moves.{Passes, passes-none, passes-on, blank-goes, blank-stays, blanked-none}
-use Rattle.scan.proofs.Parts.{string-goes, string-closes, string-refuses, string-none, number-goes, number-ends, number-none}
+use Rattle.json.proofs.Passes.{Passes, passes-none, passes-on}
+use Rattle.scan.proofs.Blanks.{blank-goes, blank-stays, blanked-none}
+use Rattle.scan.proofs.Strings.{string-goes, string-closes, string-refuses, string-none}
+use Rattle.numeral.proofs.Digits.{number-goes, number-ends, number-none}
 
 pub walk-none : (m : W.Mode) (k : List Frame) → walk m k [] ≡ refused2 []
 unfolding walk

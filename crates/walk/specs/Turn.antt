@@ -8,10 +8,10 @@ use lib.Dec.{eqb}
 use Rattle.json.specs.Walk.{Frame, aList, anObject, Next, onto, walk, Walked, end, refused2, refused3}
 use Rattle.json.specs.Walk as W
 use Rattle.json.specs.Rows.{choose}
-use Rattle.scan.specs.Part.{Stop, past, torn, numberStop, wordStop}
+use Rattle.json.specs.Part.{Stop, past, torn, numberStop, wordStop}
 use Rattle.json.specs.declared.number.InNumber.the-variants.{Start}
-use Rattle.scan.specs.declared.byte.Part.{Part}
-use Rattle.scan.specs.declared.byte.Part.the-variants.{Past, Torn}
+use Rattle.json.specs.declared.part.Part.{Part}
+use Rattle.json.specs.declared.part.Part.the-variants.{Past, Torn}
 use Rattle.walk.specs.declared.Mode.{Mode}
 use Rattle.walk.specs.declared.Mode.the-variants.{Value, FirstElement, FirstName, Name, Colon, Behind}
 use Rattle.walk.specs.declared.Walk.{Walk}

@@ -1,7 +1,6 @@
 // The walk over a text: whether it is one object, and where that ends (document 01, refusals 2 and 3).
+use json::part::Part;
 use scan::byte;
-use scan::byte::Part;
-use scan::number;
 use scan::string;
 ghost use mathlib.Core.Path.{_≡_};
 ghost use mathlib.Core.List.{[], _∷_};
@@ -9,7 +8,7 @@ ghost use mathlib.Core.Bool.{false};
 ghost use Prim.Native.Nat.{suc, _<_, _≤_, _%_};
 ghost use lib.ListN.{length, drop, getD};
 ghost use Rattle.json.specs.Byte.{isBlank};
-ghost use Rattle.scan.specs.Part.{wordStop, Stops};
+ghost use Rattle.json.specs.Part.{wordStop, Stops};
 ghost use Rattle.json.specs.Walk.{walk, anObject, firstObject, oneObject};
 ghost use Rattle.json.specs.Walk as W;
 ghost use Rattle.walk.specs.Turn.{modeOf, kind, frames, Open, steps, behindPart, plainStop, Turned, Tells};
@@ -134,7 +133,7 @@ fn plain_end(text: &[u8], at: usize) -> Part
     if b == b'n' {
         return word_end(text, at + 1, b"ull");
     }
-    number::number_end(text, at)
+    numeral::number_end(text, at)
 }
 
 // The first byte of a value.

@@ -2,7 +2,7 @@
 use lib.ListN.{drop-of-length-le}
 use borrow.Author.Needs.{needs}
 use Rattle.moving.specs.Moving.{atEnd}
-use Rattle.moving.proofs.Moves.{byte-here}
+use Rattle.json.proofs.Moves.{byte-here}
 use Rattle.moving.proofs.at_end.Statement.{statement}
 use Rattle.moving.proofs.at_end.Tie as tie
 

@@ -4,7 +4,7 @@ use lib.ListN.{length}
 use native.Mathlib.Omega.{arith}
 use borrow.Author.Needs.{needs}
 use Rattle.moving.specs.Moving.{behindString, behindBracket}
-use Rattle.moving.proofs.Moves.{Leads, lead-start, lead-one, lead-past, lead-end, moved}
+use Rattle.json.proofs.Moves.{Leads, lead-start, lead-one, lead-past, lead-end, moved}
 use Rattle.moving.proofs.Skips.{bracket-quotes, bracket-opens, bracket-closes, bracket-fewer, bracket-goes, bracket-over}
 use Rattle.moving.proofs.behind_bracket.Statement.{statement}
 use Rattle.moving.proofs.behind_bracket.Tie as tie

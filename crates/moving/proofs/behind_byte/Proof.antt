@@ -2,7 +2,7 @@
 use mathlib.Core.Path.{refl}
 use mathlib.Core.List.{tail}
 use borrow.Author.Needs.{needs}
-use Rattle.moving.proofs.Moves.{lead-start, lead-one, lead-end, moved}
+use Rattle.json.proofs.Moves.{lead-start, lead-one, lead-end, moved}
 use Rattle.moving.proofs.behind_byte.Statement.{statement}
 use Rattle.moving.proofs.behind_byte.Tie as tie
 

@@ -3,7 +3,7 @@ use lib.ListN.{drop}
 use lib.Seq.{drop-nil}
 use native.Mathlib.Omega.{arith}
 use borrow.Author.Needs.{needs}
-use Rattle.moving.proofs.Moves.{lead-start, lead-end, moved, moves-bytes, moves-rest}
+use Rattle.json.proofs.Moves.{lead-start, lead-end, moved, moves-bytes, moves-rest}
 use Rattle.moving.proofs.behind_bytes.Statement.{statement}
 use Rattle.moving.proofs.behind_bytes.Tie as tie
 

@@ -3,7 +3,7 @@ use Prim.Native.Nat.{_-_}
 use lib.ListN.{length}
 use borrow.Author.Needs.{needs}
 use Rattle.moving.specs.Moving.{behindNumber}
-use Rattle.moving.proofs.Moves.{Leads, lead-start, lead-here, lead-one, lead-end, moved}
+use Rattle.json.proofs.Moves.{Leads, lead-start, lead-here, lead-one, lead-end, moved}
 use Rattle.moving.proofs.Skips.{number-goes, number-stops, number-over}
 use Rattle.moving.proofs.behind_number.Statement.{statement}
 use Rattle.moving.proofs.behind_number.Tie as tie

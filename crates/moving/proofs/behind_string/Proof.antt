@@ -3,7 +3,7 @@ use Prim.Native.Nat.{_-_}
 use lib.ListN.{length}
 use borrow.Author.Needs.{needs}
 use Rattle.moving.specs.Moving.{behindString}
-use Rattle.moving.proofs.Moves.{Leads, lead-start, lead-one, lead-end, moved}
+use Rattle.json.proofs.Moves.{Leads, lead-start, lead-one, lead-end, moved}
 use Rattle.moving.proofs.Skips.{string-closes, string-escapes, string-goes, string-over, escape-goes, escape-over}
 use Rattle.moving.proofs.behind_string.Statement.{statement}
 use Rattle.moving.proofs.behind_string.Tie as tie

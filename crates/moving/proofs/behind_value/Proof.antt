@@ -2,7 +2,7 @@
 use borrow.Author.Needs.{needs}
 use Rattle.moving.specs.declared.Kind.the-variants.{Object, Array, Text, Number, True, False, Null}
 use Rattle.moving.specs.Moving.{behindBracket, behindString}
-use Rattle.moving.proofs.Moves.{then-moves}
+use Rattle.json.proofs.Moves.{then-moves}
 use Rattle.moving.proofs.Skips.{moves-value}
 use Rattle.moving.proofs.behind_value.Statement.{statement}
 use Rattle.moving.proofs.behind_value.Tie as tie

@@ -1,7 +1,7 @@
 -- The byte at a place, and 0 behind the text.
 use lib.ListN.{drop-of-length-le}
 use borrow.Author.Needs.{needs}
-use Rattle.moving.proofs.Moves.{byte-here}
+use Rattle.json.proofs.Moves.{byte-here}
 use Rattle.moving.proofs.byte_at.Statement.{statement}
 use Rattle.moving.proofs.byte_at.Tie as tie
 

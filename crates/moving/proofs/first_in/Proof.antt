@@ -2,7 +2,7 @@
 use borrow.Author.Needs.{needs}
 use Rattle.json.specs.Byte.{blanked}
 use Rattle.moving.specs.Moving.{firstIn}
-use Rattle.moving.proofs.Moves.{then-moves}
+use Rattle.json.proofs.Moves.{then-moves}
 use Rattle.moving.proofs.first_in.Statement.{statement}
 use Rattle.moving.proofs.first_in.Tie as tie
 

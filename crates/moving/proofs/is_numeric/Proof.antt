@@ -1,6 +1,6 @@
 -- Whether a byte is one that numbers are written with: each row of the table.
 use Rattle.json.specs.Byte.{isNumeric}
-use Rattle.moving.proofs.Rows.{rows}
+use Rattle.json.proofs.Rows.{rows}
 use Rattle.moving.proofs.is_numeric.Statement.{statement}
 use Rattle.moving.proofs.is_numeric.Tie as tie
 

@@ -2,7 +2,7 @@
 use borrow.Author.Needs.{needs}
 use Rattle.json.specs.Byte.{blanked}
 use Rattle.moving.specs.Moving.{overComma, nextAfter}
-use Rattle.moving.proofs.Moves.{then-moves}
+use Rattle.json.proofs.Moves.{then-moves}
 use Rattle.moving.proofs.next_after.Statement.{statement}
 use Rattle.moving.proofs.next_after.Tie as tie
 

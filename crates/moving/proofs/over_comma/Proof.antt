@@ -3,7 +3,7 @@ use mathlib.Core.Path.{_∙_}
 use borrow.Author.Needs.{needs}
 use Rattle.json.specs.Byte.{blanked}
 use Rattle.moving.specs.Moving.{overComma}
-use Rattle.moving.proofs.Moves.{lead-start, lead-as, moved, then-moves, moves-as}
+use Rattle.json.proofs.Moves.{lead-start, lead-as, moved, then-moves, moves-as}
 use Rattle.moving.proofs.Skips.{comma, no-comma}
 use Rattle.moving.proofs.over_comma.Statement.{statement}
 use Rattle.moving.proofs.over_comma.Tie as tie

@@ -3,7 +3,7 @@ use mathlib.Core.List.{tail}
 use borrow.Author.Needs.{needs}
 use Rattle.json.specs.Byte.{blanked}
 use Rattle.moving.specs.Moving.{behindString, valueOf}
-use Rattle.moving.proofs.Moves.{then-moves}
+use Rattle.json.proofs.Moves.{then-moves}
 use Rattle.moving.proofs.value_of.Statement.{statement}
 use Rattle.moving.proofs.value_of.Tie as tie
 

@@ -1,6 +1,6 @@
 use native.Mathlib.Omega.{arith}
 use borrow.Author.Needs.{needs}
-use Rattle.string.proofs.Rows.{rows}
+use Rattle.json.proofs.Rows.{rows}
 use Rattle.json.specs.Byte.{digit}
 use Rattle.string.proofs.digit_of.Statement.{statement}
 use Rattle.string.proofs.digit_of.Tie as tie

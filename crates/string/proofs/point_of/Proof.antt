@@ -1,5 +1,5 @@
 use borrow.Author.Needs.{needs}
-use Rattle.string.proofs.Rows.{rows}
+use Rattle.json.proofs.Rows.{rows}
 use Rattle.json.specs.String.{point}
 use Rattle.string.proofs.point_of.Statement.{statement}
 use Rattle.string.proofs.point_of.Tie as tie

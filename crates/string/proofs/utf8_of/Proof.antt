@@ -1,6 +1,6 @@
 use native.Mathlib.Omega.{arith}
 use borrow.Author.Needs.{needs}
-use Rattle.string.proofs.Rows.{rows}
+use Rattle.json.proofs.Rows.{rows}
 use Rattle.json.specs.Byte.{utf8}
 use Rattle.string.proofs.utf8_of.Statement.{statement}
 use Rattle.string.proofs.utf8_of.Tie as tie

@@ -1,7 +1,8 @@
 -- Blanks, the brace, and the walk from behind it.
 use native.Mathlib.Omega.{arith}
 use Rattle.json.specs.Walk as W
-use Rattle.scan.proofs.Moves.{passes-one, answers-here, answers-end, no-blank}
+use Rattle.json.proofs.Passes.{passes-one, answers-here, answers-end}
+use Rattle.scan.proofs.Blanks.{no-blank}
 use Rattle.walk.proofs.Walks.{walk-none, top-blanks, top-refuses, top-opens}
 use borrow.Author.Needs.{needs}
 use Rattle.walk.proofs.first_object.Statement.{statement}

@@ -7,7 +7,8 @@ use lib.ListN.{length}
 use Rattle.json.specs.Walk as W
 use Rattle.json.specs.Walk.{walk}
 use Rattle.walk.specs.Turn.{frames}
-use Rattle.scan.proofs.Moves.{passes-none, answers-end, no-blank}
+use Rattle.json.proofs.Passes.{passes-none, answers-end}
+use Rattle.scan.proofs.Blanks.{no-blank}
 use Rattle.walk.proofs.Walks.{walk-none, Inside, inside-blanks, inside-goes, inside-ends}
 use Rattle.walk.proofs.inside_end.Statement.{statement}
 use Rattle.walk.proofs.inside_end.Tie as tie

@@ -4,9 +4,9 @@ use Prim.Native.Nat.{_-_}
 use mathlib.Core.Path.{sym, _∙_}
 use native.Mathlib.Omega.{arith}
 use lib.ListN.{length, drop}
-use Rattle.scan.specs.Part.{torn, wordStop}
-use Rattle.scan.proofs.Moves.{Passes, passes-none, passes-one, answers-here, answers-end}
-use Rattle.scan.proofs.Parts.{word-goes, word-differs, word-cut, word-done}
+use Rattle.json.specs.Part.{torn, wordStop}
+use Rattle.json.proofs.Passes.{Passes, passes-none, passes-one, answers-here, answers-end}
+use Rattle.walk.proofs.Words.{word-goes, word-differs, word-cut, word-done}
 use Rattle.walk.proofs.word_end.Statement.{statement}
 use Rattle.walk.proofs.word_end.Tie as tie
 

@@ -2,10 +2,10 @@
 use borrow.Author.Needs.{needs}
 use Prim.Native.Nat.{_-_}
 use lib.ListN.{length}
-use Rattle.scan.specs.Part.{stringStop}
+use Rattle.json.specs.Part.{stringStop}
 use Rattle.json.specs.declared.string.InString.the-variants.{Plain}
-use Rattle.scan.proofs.Moves.{Passes, passes-none, passes-one}
-use Rattle.scan.proofs.Parts.{ascii-goes, skips}
+use Rattle.json.proofs.Passes.{Passes, passes-none, passes-one}
+use Rattle.scan.proofs.Strings.{ascii-goes, skips}
 use Rattle.scan.proofs.string.ascii_end.Statement.{statement}
 use Rattle.scan.proofs.string.ascii_end.Tie as tie
 

@@ -1,0 +1,93 @@
+-- Where the number ends is asked of the rest; a number that may end has a byte.
+use borrow.Author.Needs.{needs}
+use Prim.Native.Nat.{_-_, _<_}
+use mathlib.Core.Path.{_≡_}
+use mathlib.Core.Bool.{true, false, false≢true}
+use native.Mathlib.Omega.{arith}
+use lib.ListN.{length}
+use Rattle.json.specs.Number.{mayEnd}
+use Rattle.json.specs.Part.{past, torn, numberStop}
+use Rattle.json.specs.declared.number.InNumber.the-variants.{Start}
+use Rattle.json.proofs.Passes.{Passes, passes-none, passes-one, answers-here, answers-end}
+use Rattle.numeral.proofs.Digits.{number-goes, number-ends, number-none}
+use Rattle.numeral.proofs.number_end.Statement.{statement}
+use Rattle.numeral.proofs.number_end.Tie as tie
+
+abbrev Inv-loop : tie.InvT-loop
+Inv-loop text at i₀ part₀ i part = Passes (numberStop part) (numberStop Start) text at i × (mayEnd part ≡ true → (at < i) × (at < length text))
+
+abbrev μ-loop : tie.MeasureT-loop
+μ-loop text at i₀ part₀ i part = length text - i
+
+loop-holds : tie.Need-loop-holds Inv-loop μ-loop
+loop-holds c = (passes-none (numberStop Start) _ _, λ e. absurd (false≢true e))
+
+shared-slice-read-digit-after : tie.Need-shared-slice-read-digit-after Inv-loop μ-loop
+shared-slice-read-digit-after c = search needs
+
+digit-after-requires : tie.Need-digit-after-requires Inv-loop μ-loop
+digit-after-requires c κs = search needs
+
+enum-known-next : tie.Need-enum-known-next Inv-loop μ-loop
+enum-known-next c = search needs
+
+add-i : tie.Need-add-i Inv-loop μ-loop
+add-i c = search needs
+
+loop-less : tie.Need-loop-less Inv-loop μ-loop
+loop-less c = search needs
+
+loop-again : tie.Need-loop-again Inv-loop μ-loop
+loop-again c =
+    let l = c .before .before .before .before .before in
+    (passes-one (l .before .loop .inv .0) (l .loop-test .taken) (number-goes _ _ (cc)), λ e. (omega arith, omega arith))
+
+enum-told : tie.Need-enum-told Inv-loop μ-loop
+enum-told c = search needs
+
+may-end-requires : tie.Need-may-end-requires Inv-loop μ-loop
+may-end-requires c κs = search needs
+
+returns : tie.Need-returns Inv-loop μ-loop
+returns c =
+    let l = c .before .before .before .before .before .before in
+    (answers-here (l .before .loop .inv .0) (l .loop-test .taken) past (number-ends _ _ true (cc) (cc)), omega (arith, l .before .loop .inv .1 (cc)), omega arith)
+
+returns-2 : tie.Need-returns-2 Inv-loop μ-loop
+returns-2 c =
+    let l = c .before .before .before .before .before .before in
+    (answers-here (l .before .loop .inv .0) (l .loop-test .taken) torn (number-ends _ _ false (cc) (cc)), omega arith)
+
+may-end-requires-2 : tie.Need-may-end-requires-2 Inv-loop μ-loop
+may-end-requires-2 c κs = search needs
+
+returns-3 : tie.Need-returns-3 Inv-loop μ-loop
+returns-3 c =
+    let l = c .before .before in
+    (answers-end (l .before .loop .inv .0) past (l .loop-test .left) (number-none _ true (cc)), omega (arith, l .before .loop .inv .1 (cc)), omega arith)
+
+returns-4 : tie.Need-returns-4 Inv-loop μ-loop
+returns-4 c =
+    let l = c .before .before in
+    (answers-end (l .before .loop .inv .0) torn (l .loop-test .left) (number-none _ false (cc)), omega arith)
+
+pub number-end-spec : {M : Type 1} → statement M
+number-end-spec =
+    tie.close
+    (tie.spec
+    Inv-loop
+    μ-loop
+    loop-holds
+    shared-slice-read-digit-after
+    digit-after-requires
+    enum-known-next
+    add-i
+    loop-less
+    loop-again
+    enum-told
+    may-end-requires
+    returns
+    returns-2
+    may-end-requires-2
+    returns-3
+    returns-4)

@@ -1,0 +1,230 @@
+// A number, byte by byte, and where it ends.
+use json::number::{DigitStep, InNumber};
+use json::part::Part;
+ghost use mathlib.Core.Path.{_≡_};
+ghost use Prim.Native.Nat.{suc};
+ghost use lib.ListN.{drop};
+ghost use Rattle.json.specs.Number.{onward, mayEnd};
+ghost use Rattle.json.specs.Part.{numberStop, Stops};
+ghost use Rattle.json.specs.declared.number.InNumber.the-variants.{Start};
+
+fn after_start(b: u8) -> DigitStep
+    ensures { λ r. ⌜ r ≡ onward InNumber.Start b ⌝ }
+{
+    if b < 45 {
+        return DigitStep::Over;
+    }
+    if b < 46 {
+        return DigitStep::Onward(InNumber::Minus);
+    }
+    if b < 48 {
+        return DigitStep::Over;
+    }
+    if b < 49 {
+        return DigitStep::Onward(InNumber::Zero);
+    }
+    if b < 58 {
+        return DigitStep::Onward(InNumber::Whole);
+    }
+    DigitStep::Over
+}
+
+fn after_minus(b: u8) -> DigitStep
+    ensures { λ r. ⌜ r ≡ onward InNumber.Minus b ⌝ }
+{
+    if b < 48 {
+        return DigitStep::Over;
+    }
+    if b < 49 {
+        return DigitStep::Onward(InNumber::Zero);
+    }
+    if b < 58 {
+        return DigitStep::Onward(InNumber::Whole);
+    }
+    DigitStep::Over
+}
+
+fn after_zero(b: u8) -> DigitStep
+    ensures { λ r. ⌜ r ≡ onward InNumber.Zero b ⌝ }
+{
+    if b < 46 {
+        return DigitStep::Over;
+    }
+    if b < 47 {
+        return DigitStep::Onward(InNumber::Point);
+    }
+    if b < 69 {
+        return DigitStep::Over;
+    }
+    if b < 70 {
+        return DigitStep::Onward(InNumber::Mark);
+    }
+    if b < 101 {
+        return DigitStep::Over;
+    }
+    if b < 102 {
+        return DigitStep::Onward(InNumber::Mark);
+    }
+    DigitStep::Over
+}
+
+fn after_whole(b: u8) -> DigitStep
+    ensures { λ r. ⌜ r ≡ onward InNumber.Whole b ⌝ }
+{
+    if 58 <= b {
+        if b < 69 {
+            return DigitStep::Over;
+        }
+        if b < 70 {
+            return DigitStep::Onward(InNumber::Mark);
+        }
+        if b < 101 {
+            return DigitStep::Over;
+        }
+        if b < 102 {
+            return DigitStep::Onward(InNumber::Mark);
+        }
+        return DigitStep::Over;
+    }
+    if 48 <= b {
+        return DigitStep::Onward(InNumber::Whole);
+    }
+    if 47 <= b {
+        return DigitStep::Over;
+    }
+    if 46 <= b {
+        return DigitStep::Onward(InNumber::Point);
+    }
+    DigitStep::Over
+}
+
+fn after_point(b: u8) -> DigitStep
+    ensures { λ r. ⌜ r ≡ onward InNumber.Point b ⌝ }
+{
+    if b < 48 {
+        return DigitStep::Over;
+    }
+    if b < 58 {
+        return DigitStep::Onward(InNumber::Fraction);
+    }
+    DigitStep::Over
+}
+
+fn after_fraction(b: u8) -> DigitStep
+    ensures { λ r. ⌜ r ≡ onward InNumber.Fraction b ⌝ }
+{
+    if b < 48 {
+        return DigitStep::Over;
+    }
+    if b < 58 {
+        return DigitStep::Onward(InNumber::Fraction);
+    }
+    if b < 69 {
+        return DigitStep::Over;
+    }
+    if b < 70 {
+        return DigitStep::Onward(InNumber::Mark);
+    }
+    if b < 101 {
+        return DigitStep::Over;
+    }
+    if b < 102 {
+        return DigitStep::Onward(InNumber::Mark);
+    }
+    DigitStep::Over
+}
+
+fn after_mark(b: u8) -> DigitStep
+    ensures { λ r. ⌜ r ≡ onward InNumber.Mark b ⌝ }
+{
+    if b < 43 {
+        return DigitStep::Over;
+    }
+    if b < 44 {
+        return DigitStep::Onward(InNumber::Sign);
+    }
+    if b < 45 {
+        return DigitStep::Over;
+    }
+    if b < 46 {
+        return DigitStep::Onward(InNumber::Sign);
+    }
+    if b < 48 {
+        return DigitStep::Over;
+    }
+    if b < 58 {
+        return DigitStep::Onward(InNumber::Power);
+    }
+    DigitStep::Over
+}
+
+fn after_power(b: u8) -> DigitStep
+    ensures { λ r. ⌜ r ≡ onward InNumber.Power b ⌝ }
+{
+    if b < 48 {
+        return DigitStep::Over;
+    }
+    if b < 58 {
+        return DigitStep::Onward(InNumber::Power);
+    }
+    DigitStep::Over
+}
+
+// What a byte does in a part of a number. Behind the exponent's sign stands what stands behind a digit of it.
+fn digit_after(part: InNumber, b: u8) -> DigitStep
+    ensures { λ r. ⌜ r ≡ onward part b ⌝ }
+{
+    match part {
+        InNumber::Start => after_start(b),
+        InNumber::Minus => after_minus(b),
+        InNumber::Zero => after_zero(b),
+        InNumber::Whole => after_whole(b),
+        InNumber::Point => after_point(b),
+        InNumber::Fraction => after_fraction(b),
+        InNumber::Mark => after_mark(b),
+        InNumber::Sign => after_power(b),
+        InNumber::Power => after_power(b),
+    }
+}
+
+fn may_end(part: InNumber) -> bool
+    ensures { λ r. ⌜ r ≡ mayEnd part ⌝ }
+{
+    match part {
+        InNumber::Start => false,
+        InNumber::Minus => false,
+        InNumber::Zero => true,
+        InNumber::Whole => true,
+        InNumber::Point => false,
+        InNumber::Fraction => true,
+        InNumber::Mark => false,
+        InNumber::Sign => false,
+        InNumber::Power => true,
+    }
+}
+
+// The place behind the number at `at`.
+pub fn number_end(text: &[u8], at: usize) -> Part
+    ensures { λ r. ⌜ Stops (now (text .entry)) (suc at) (numberStop Start (drop at (now (text .entry)))) r ⌝ }
+{
+    let mut i = at;
+    let mut part = InNumber::Start;
+    while i < text.len() {
+        match digit_after(part, text[i]) {
+            DigitStep::Onward(next) => {
+                part = next;
+                i += 1;
+            }
+            DigitStep::Over => {
+                if may_end(part) {
+                    return Part::Past(i);
+                }
+                return Part::Torn(i);
+            }
+        }
+    }
+    if may_end(part) {
+        return Part::Past(text.len());
+    }
+    Part::Torn(text.len())
+}
