@@ -7,7 +7,7 @@ use lib.ListN.{length, getD, drop}
 use lib.Seq.{drop-cons}
 use lib.Dec.{eqb}
 use native.Mathlib.Omega.{arith}
-use borrow.Author.Tests.{ne-eqb}
+use borrow.Author.Tests.{ne-eqb, eqb-true}
 use Rattle.json.specs.Rows.{choose}
 use Rattle.json.specs.Byte.{isBlank, blanked}
 use Rattle.json.specs.Tree.{Moves}
@@ -16,7 +16,7 @@ use Rattle.json.specs.Number.{onward, mayEnd}
 use Rattle.json.specs.Part.{Stop, past, torn, stringStop, numberStop, wordStop, Stops}
 use Rattle.json.specs.Walk as W
 use Rattle.json.specs.Walk.{Frame, aList, anObject, Next, go, onto, step, stepChars, walk, Walked, end, refused2}
-use Rattle.walk.specs.Turn.{modeOf, frames, Open, steps, behindPart, plainStop, Turned}
+use Rattle.walk.specs.Turn.{modeOf, frames, Open, steps, behindPart, plainStop, behindQuoted, closesEmpty, takesValue, Byte, Turned}
 use Rattle.json.specs.declared.string.InString.{InString}
 use Rattle.json.specs.declared.string.InString.the-variants.{Plain}
 use Rattle.json.specs.declared.string.CharStep.{CharStep}
@@ -31,6 +31,7 @@ use Rattle.walk.specs.declared.Mode.{Mode}
 use Rattle.walk.specs.declared.Mode.the-variants.{Value, FirstElement, FirstName, Name, Colon, Behind}
 use Rattle.walk.specs.declared.Walk.{Walk}
 use Rattle.walk.specs.declared.Turn.the-variants.{Go}
+use Rattle.walk.specs.declared.Quoted.the-variants.{Then, NoString}
 use Rattle.json.proofs.Passes.{Passes, passes-none, passes-on}
 use Rattle.scan.proofs.Blanks.{blank-goes, blank-stays, blanked-none}
 use Rattle.scan.proofs.Strings.{string-goes, string-closes, string-refuses, string-none}
@@ -161,6 +162,86 @@ mode-stays Colon b k e = rw e
 mode-stays Behind b [] e = rw e
 mode-stays Behind b (aList ∷ k) e = rw e
 mode-stays Behind b (anObject ∷ k) e = rw e
+
+-- ---- the byte at a place, by the mode there
+abbrev apart : Mode → Bool
+apart Value = true
+apart FirstElement = true
+apart FirstName = true
+apart Name = true
+apart Colon = false
+apart Behind = false
+
+module _ (text : List ℕ) (at : ℕ) (h : at < length text) (mode : Mode) (k : List Frame) where
+  abbrev here : ℕ
+  here = getD text at 0
+
+  -- a quote
+  pub quote-begins : {next : Mode} → here ≡ 34 → behindQuoted mode ≡ Then next
+      → walk (modeOf mode) k (drop at text) ≡ stopped (stringStop Plain (drop (suc at) text)) (walk (modeOf next) k)
+  unfolding step
+  quote-begins {next} q e = rw (walk-at text at h (modeOf mode) k, q) (by mode e)
+    where
+      by : (m : Mode) → behindQuoted m ≡ Then next → steps text at (step (modeOf m) 34 k) ≡ stopped (stringStop Plain (drop (suc at) text)) (walk (modeOf next) k)
+      by Value e = let n : Behind ≡ next = cc in rw (← n) (string-walk k (drop (suc at) text))
+      by FirstElement e = let n : Behind ≡ next = cc in rw (← n) (string-walk k (drop (suc at) text))
+      by FirstName e = let n : Colon ≡ next = cc in rw (← n) (name-walk k (drop (suc at) text))
+      by Name e = let n : Colon ≡ next = cc in rw (← n) (name-walk k (drop (suc at) text))
+      by Colon e = cc
+      by Behind e = cc
+
+  pub quote-wrong : here ≡ 34 → behindQuoted mode ≡ NoString → walk (modeOf mode) k (drop at text) ≡ refused2 (drop at text)
+  unfolding step
+  quote-wrong q e = rw (walk-at text at h (modeOf mode) k, q) (by mode k e)
+    where
+      by : (m : Mode) (k : List Frame) → behindQuoted m ≡ NoString → steps text at (step (modeOf m) 34 k) ≡ refused2 (drop at text)
+      by Value k e = cc
+      by FirstElement k e = cc
+      by FirstName k e = cc
+      by Name k e = cc
+      by Colon k e = refl
+      by Behind [] e = refl
+      by Behind (aList ∷ k) e = refl
+      by Behind (anObject ∷ k) e = refl
+
+  module _ (blank : isBlank here ≡ false) where
+    pub empty-shuts : closesEmpty mode here ≡ true → walk (modeOf mode) k (drop at text) ≡ steps text at (W.shut k)
+    unfolding step
+    empty-shuts e = rw (walk-at text at h (modeOf mode) k) (by mode e)
+      where
+        by : (m : Mode) → closesEmpty m here ≡ true → steps text at (step (modeOf m) here k) ≡ steps text at (W.shut k)
+        by FirstElement e = rw (blank, e)
+        by FirstName e = rw (eqb-true here 125 e)
+        by Value e = cc
+        by Name e = cc
+        by Colon e = cc
+        by Behind e = cc
+
+  module _ (byte : Byte mode here) where
+    pub value-begins : takesValue mode ≡ true → walk (modeOf mode) k (drop at text) ≡ steps text at (W.begin here k)
+    unfolding step
+    value-begins e = rw (walk-at text at h (modeOf mode) k) (by mode e (byte .closes))
+      where
+        by : (m : Mode) → takesValue m ≡ true → closesEmpty m here ≡ false → steps text at (step (modeOf m) here k) ≡ steps text at (W.begin here k)
+        by Value e n = rw (byte .blank)
+        by FirstElement e n = rw (byte .blank, n)
+        by FirstName e n = cc
+        by Name e n = cc
+        by Colon e n = cc
+        by Behind e n = cc
+
+    -- neither a colon nor a comma may stand here
+    pub name-wrong : apart mode ≡ true → takesValue mode ≡ false → walk (modeOf mode) k (drop at text) ≡ refused2 (drop at text)
+    unfolding step
+    name-wrong a e = rw (walk-at text at h (modeOf mode) k) (by mode a e (byte .closes))
+      where
+        by : (m : Mode) → apart m ≡ true → takesValue m ≡ false → closesEmpty m here ≡ false → steps text at (step (modeOf m) here k) ≡ refused2 (drop at text)
+        by Value a e n = cc
+        by FirstElement a e n = cc
+        by FirstName a e n = rw (byte .blank, ne-eqb here 34 (byte .quote), n)
+        by Name a e n = rw (byte .blank, ne-eqb here 34 (byte .quote))
+        by Colon a e n = cc
+        by Behind a e n = cc
 
 -- ---- inside the text's own brace, which was at the place before `start`
 pub record Inside (text : List ℕ) (start at : ℕ) (mode : Mode) (d n : ℕ) : Type 0 where

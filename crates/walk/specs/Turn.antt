@@ -2,12 +2,13 @@
 use Prim.Native.Nat.{ℕ, zero, suc, _<_, _≤_, _^_, _/_, _%_}
 use mathlib.Core.Path.{_≡_}
 use mathlib.Core.List.{List, [], _∷_}
-use mathlib.Core.Bool.{cond}
+use mathlib.Core.Bool.{Bool, true, false, cond}
 use lib.ListN.{length, drop}
 use lib.Dec.{eqb}
 use Rattle.json.specs.Walk.{Frame, aList, anObject, Next, onto, walk, Walked, end, refused2, refused3}
 use Rattle.json.specs.Walk as W
 use Rattle.json.specs.Rows.{choose}
+use Rattle.json.specs.Byte.{isBlank}
 use Rattle.json.specs.Part.{Stop, past, torn, numberStop, wordStop}
 use Rattle.json.specs.declared.number.InNumber.the-variants.{Start}
 use Rattle.json.specs.declared.part.Part.{Part}
@@ -15,6 +16,8 @@ use Rattle.json.specs.declared.part.Part.the-variants.{Past, Torn}
 use Rattle.walk.specs.declared.Mode.{Mode}
 use Rattle.walk.specs.declared.Mode.the-variants.{Value, FirstElement, FirstName, Name, Colon, Behind}
 use Rattle.walk.specs.declared.Walk.{Walk}
+use Rattle.walk.specs.declared.Quoted.{Quoted}
+use Rattle.walk.specs.declared.Quoted.the-variants.{Then, NoString}
 use Rattle.walk.specs.declared.Turn.{Turn}
 use Rattle.walk.specs.declared.Turn.the-variants.{Go, End, Bad, Deep}
 use Rattle.walk.specs.declared.End.{End as Ended}
@@ -27,6 +30,38 @@ modeOf FirstName = W.firstName
 modeOf Name = W.name
 modeOf Colon = W.colon
 modeOf Behind = W.behind
+
+-- The mode behind a string that begins in a mode.
+abbrev pub behindQuoted : Mode → Quoted
+behindQuoted Value = Then Behind
+behindQuoted FirstElement = Then Behind
+behindQuoted FirstName = Then Colon
+behindQuoted Name = Then Colon
+behindQuoted Colon = NoString
+behindQuoted Behind = NoString
+
+-- ] or } right behind the bracket that it closes
+abbrev pub closesEmpty : Mode → ℕ → Bool
+closesEmpty Value b = false
+closesEmpty FirstElement b = eqb b 93
+closesEmpty FirstName b = eqb b 125
+closesEmpty Name b = false
+closesEmpty Colon b = false
+closesEmpty Behind b = false
+
+abbrev pub takesValue : Mode → Bool
+takesValue Value = true
+takesValue FirstElement = true
+takesValue FirstName = false
+takesValue Name = false
+takesValue Colon = false
+takesValue Behind = false
+
+-- No blank, no quote, and no bracket that closes what is empty.
+pub record Byte (mode : Mode) (b : ℕ) : Type 0 where
+  pub blank : isBlank b ≡ false
+  pub quote : b ≡ 34 → ⊥
+  pub closes : closesEmpty mode b ≡ false
 
 -- A bit for each open bracket, 1 for a brace, the innermost lowest.
 abbrev pub kind : ℕ → Frame

@@ -11,7 +11,7 @@ ghost use Rattle.json.specs.Byte.{isBlank};
 ghost use Rattle.json.specs.Part.{wordStop, Stops};
 ghost use Rattle.json.specs.Walk.{walk, anObject, firstObject, oneObject};
 ghost use Rattle.json.specs.Walk as W;
-ghost use Rattle.walk.specs.Turn.{modeOf, kind, frames, Open, steps, behindPart, plainStop, Turned, Tells};
+ghost use Rattle.walk.specs.Turn.{modeOf, kind, frames, Open, steps, behindPart, plainStop, behindQuoted, closesEmpty, takesValue, Byte, Turned, Tells};
 
 // The place behind the object; or refusal 2, or refusal 3, with its place.
 pub enum End {
@@ -36,6 +36,12 @@ pub struct Walk {
     pub mode: Mode,
     pub depth: usize,
     pub kinds: u64,
+}
+
+// The mode behind a string, where one may stand.
+pub enum Quoted {
+    Then(Mode),
+    NoString,
 }
 
 pub enum Turn {
@@ -136,15 +142,12 @@ fn plain_end(text: &[u8], at: usize) -> Part
     numeral::number_end(text, at)
 }
 
-// The first byte of a value.
+// The first byte of a value that is no string.
 fn begin(text: &[u8], at: usize, depth: usize, kinds: u64) -> Turn
-    requires { ⌜ (at < length (now text)) × Open depth kinds ⌝ }
+    requires { ⌜ (at < length (now text)) × (getD (now text) at 0 ≡ 34 → ⊥) × Open depth kinds ⌝ }
     ensures { λ r. ⌜ Turned (now (text .entry)) at (steps (now (text .entry)) at (W.begin (getD (now (text .entry)) at 0) (frames depth kinds))) r ⌝ }
 {
     let b = text[at];
-    if b == b'"' {
-        return past(string::string_end(text, at + 1), Mode::Behind, depth, kinds);
-    }
     if b == b'{' {
         return opened(text, at, Mode::FirstName, depth, kinds, 1);
     }
@@ -154,34 +157,56 @@ fn begin(text: &[u8], at: usize, depth: usize, kinds: u64) -> Turn
     past(plain_end(text, at), Mode::Behind, depth, kinds)
 }
 
-fn first_element(text: &[u8], at: usize, depth: usize, kinds: u64) -> Turn
-    requires { ⌜ (at < length (now text)) × (isBlank (getD (now text) at 0) ≡ false) × Open depth kinds ⌝ }
-    ensures { λ r. ⌜ Turned (now (text .entry)) at (walk W.firstElement (frames depth kinds) (drop at (now (text .entry)))) r ⌝ }
+// What stands behind a string that begins in a mode.
+fn behind_string(mode: Mode) -> Quoted
+    ensures { λ r. ⌜ r ≡ behindQuoted mode ⌝ }
 {
-    if text[at] == b']' {
-        return shut(text, at, depth, kinds);
+    match mode {
+        Mode::Value => Quoted::Then(Mode::Behind),
+        Mode::FirstElement => Quoted::Then(Mode::Behind),
+        Mode::FirstName => Quoted::Then(Mode::Colon),
+        Mode::Name => Quoted::Then(Mode::Colon),
+        Mode::Colon => Quoted::NoString,
+        Mode::Behind => Quoted::NoString,
     }
-    begin(text, at, depth, kinds)
 }
 
-fn name(text: &[u8], at: usize, depth: usize, kinds: u64) -> Turn
-    requires { ⌜ (at < length (now text)) × (isBlank (getD (now text) at 0) ≡ false) × Open depth kinds ⌝ }
-    ensures { λ r. ⌜ Turned (now (text .entry)) at (walk W.name (frames depth kinds) (drop at (now (text .entry)))) r ⌝ }
+// A quote: a string or a name begins.
+fn string_at(text: &[u8], at: usize, mode: Mode, depth: usize, kinds: u64) -> Turn
+    requires { ⌜ (at < length (now text)) × (getD (now text) at 0 ≡ 34) × Open depth kinds ⌝ }
+    ensures { λ r. ⌜ Turned (now (text .entry)) at (walk (modeOf mode) (frames depth kinds) (drop at (now (text .entry)))) r ⌝ }
 {
-    if text[at] == b'"' {
-        return past(string::string_end(text, at + 1), Mode::Colon, depth, kinds);
+    match behind_string(mode) {
+        Quoted::Then(next) => past(string::string_end(text, at + 1), next, depth, kinds),
+        Quoted::NoString => Turn::Bad(at),
     }
-    Turn::Bad(at)
 }
 
-fn first_name(text: &[u8], at: usize, depth: usize, kinds: u64) -> Turn
-    requires { ⌜ (at < length (now text)) × (isBlank (getD (now text) at 0) ≡ false) × Open depth kinds ⌝ }
-    ensures { λ r. ⌜ Turned (now (text .entry)) at (walk W.firstName (frames depth kinds) (drop at (now (text .entry)))) r ⌝ }
+// Whether a byte closes the empty list or object that may end here.
+fn closes_empty(mode: Mode, b: u8) -> bool
+    ensures { λ r. ⌜ r ≡ closesEmpty mode b ⌝ }
 {
-    if text[at] == b'}' {
-        return shut(text, at, depth, kinds);
+    match mode {
+        Mode::Value => false,
+        Mode::FirstElement => b == b']',
+        Mode::FirstName => b == b'}',
+        Mode::Name => false,
+        Mode::Colon => false,
+        Mode::Behind => false,
     }
-    name(text, at, depth, kinds)
+}
+
+fn takes_value(mode: Mode) -> bool
+    ensures { λ r. ⌜ r ≡ takesValue mode ⌝ }
+{
+    match mode {
+        Mode::Value => true,
+        Mode::FirstElement => true,
+        Mode::FirstName => false,
+        Mode::Name => false,
+        Mode::Colon => false,
+        Mode::Behind => false,
+    }
 }
 
 fn colon(text: &[u8], at: usize, depth: usize, kinds: u64) -> Turn
@@ -252,19 +277,37 @@ fn behind(text: &[u8], at: usize, depth: usize, kinds: u64) -> Turn
     behind_member(text, at, depth, kinds)
 }
 
-// What stands at `at`, which is no blank, in a mode.
+// No value may stand here: a colon, what stands behind a value, or a byte that is wrong.
+fn between_values(text: &[u8], at: usize, mode: Mode, depth: usize, kinds: u64) -> Turn
+    requires { ⌜ (at < length (now text)) × Byte mode (getD (now text) at 0) × Open depth kinds × (takesValue mode ≡ false) ⌝ }
+    ensures { λ r. ⌜ Turned (now (text .entry)) at (walk (modeOf mode) (frames depth kinds) (drop at (now (text .entry)))) r ⌝ }
+{
+    match mode {
+        Mode::Value => Turn::Bad(at),
+        Mode::FirstElement => Turn::Bad(at),
+        Mode::FirstName => Turn::Bad(at),
+        Mode::Name => Turn::Bad(at),
+        Mode::Colon => colon(text, at, depth, kinds),
+        Mode::Behind => behind(text, at, depth, kinds),
+    }
+}
+
+// What stands at `at`, which is no blank, in a mode. Strings go first: they are the most frequent.
 fn turn_at(text: &[u8], at: usize, mode: Mode, depth: usize, kinds: u64) -> Turn
     requires { ⌜ (at < length (now text)) × (isBlank (getD (now text) at 0) ≡ false) × Open depth kinds ⌝ }
     ensures { λ r. ⌜ Turned (now (text .entry)) at (walk (modeOf mode) (frames depth kinds) (drop at (now (text .entry)))) r ⌝ }
 {
-    match mode {
-        Mode::Value => begin(text, at, depth, kinds),
-        Mode::FirstElement => first_element(text, at, depth, kinds),
-        Mode::FirstName => first_name(text, at, depth, kinds),
-        Mode::Name => name(text, at, depth, kinds),
-        Mode::Colon => colon(text, at, depth, kinds),
-        Mode::Behind => behind(text, at, depth, kinds),
+    let b = text[at];
+    if b == b'"' {
+        return string_at(text, at, mode, depth, kinds);
     }
+    if closes_empty(mode, b) {
+        return shut(text, at, depth, kinds);
+    }
+    if takes_value(mode) {
+        return begin(text, at, depth, kinds);
+    }
+    between_values(text, at, mode, depth, kinds)
 }
 
 // The walk from behind the object's own brace on.
