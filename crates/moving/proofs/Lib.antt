@@ -1,4 +1,4 @@
 -- What the proofs of several functions use.
-mod Kinds
+mod FirstByte
 mod Skips
 mod Counts

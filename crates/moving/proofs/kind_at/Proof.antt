@@ -1,7 +1,7 @@
 -- What the value at a place is: each row of the table, by the byte there.
 use borrow.Author.Needs.{needs}
 use Rattle.moving.specs.Moving.{kindOf}
-use Rattle.moving.proofs.Kinds.{kinds}
+use Rattle.moving.proofs.FirstByte.{kinds}
 use Rattle.moving.proofs.kind_at.Statement.{statement}
 use Rattle.moving.proofs.kind_at.Tie as tie
 
