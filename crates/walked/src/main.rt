@@ -86,17 +86,22 @@ fn through(chunk: &[u8], start: Line, text: &mut [u8]) -> Line {
     line
 }
 
-fn main() {
-    let mut chunk = io::large_buffer();
-    let mut text = io::large_buffer();
+// A thousand chunks are more than any input here has.
+fn run(chunk: &mut [u8], text: &mut [u8]) {
     let mut line = fresh();
     let mut left: usize = 1000;
     while 0 < left {
-        let n = io::read_full(0, &mut chunk);
+        let n = io::read_full(0, chunk);
         if n == 0 {
             return;
         }
-        line = through(&chunk[..n], line, &mut text);
+        line = through(&chunk[..n], line, text);
         left -= 1;
     }
+}
+
+fn main() {
+    let mut chunk = io::large_buffer();
+    let mut text = io::large_buffer();
+    run(&mut chunk, &mut text);
 }

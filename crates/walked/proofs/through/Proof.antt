@@ -1,46 +1,40 @@
+-- A turn for each byte of the chunk; the buffer keeps its length.
+use Prim.Native.Nat.{_-_}
+use mathlib.Core.Path.{_≡_}
+use lib.ListN.{length}
+use borrow.Author.Needs.{needs}
 use Rattle.walked.proofs.through.Statement.{statement}
 use Rattle.walked.proofs.through.Tie as tie
-use Rattle.walked.proofs.through.Reads as reads
-use Rattle.walked.proofs.through.Lts as lts
-use Rattle.walked.proofs.with.Reads as with-reads
 
 abbrev Inv-loop : tie.InvT-loop
-Inv-loop chunk text₀ line₀ i₀ text line i = ?
+Inv-loop chunk text₀ line₀ i₀ text line i = length text ≡ length text₀
 
 abbrev μ-loop : tie.MeasureT-loop
-μ-loop chunk text₀ line₀ i₀ text line i = ?
+μ-loop chunk text₀ line₀ i₀ text line i = length chunk - i
 
--- src/main.rt:82:5
 loop-holds : tie.Need-loop-holds Inv-loop μ-loop
-loop-holds c = ?
+loop-holds c = search needs
 
--- src/main.rt:83:27
 shared-slice-read-with : tie.Need-shared-slice-read-with Inv-loop μ-loop
-shared-slice-read-with c = ?
+shared-slice-read-with c = search needs
 
--- src/main.rt:83:9
 with-requires : tie.Need-with-requires Inv-loop μ-loop
-with-requires c κs = ?
+with-requires c κs = search needs
 
--- src/main.rt:84:9
 add-i : tie.Need-add-i Inv-loop μ-loop
-add-i c = ?
+add-i c = search needs
 
--- src/main.rt:82:5
 loop-less : tie.Need-loop-less Inv-loop μ-loop
-loop-less c = ?
+loop-less c = search needs
 
--- src/main.rt:82:5
 loop-again : tie.Need-loop-again Inv-loop μ-loop
-loop-again c = ?
+loop-again c = search needs
 
--- src/main.rt:79:1
 same-length : tie.Need-same-length Inv-loop μ-loop
-same-length c = ?
+same-length c = search needs
 
--- src/main.rt:79:1
 returns : tie.Need-returns Inv-loop μ-loop
-returns c = ?
+returns c = search needs
 
 pub through-spec : {M : Type 1} → statement M
 through-spec =
