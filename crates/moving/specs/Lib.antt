@@ -1,3 +1,4 @@
 pub mod Moving
 pub mod Read
 pub mod Count
+pub mod Examples
