@@ -53,14 +53,17 @@ module _ {A : Type 0} where
       by true e = let g : hi ≤ n = leb-true hi n e in hit A b n a rows (omega arith)
       by false e = refl
 
-pub between : (lo hi : ℕ) (A : Type 0) (b : ℕ) (a : A) (rows : Rows A) → lo ≤ b → b < hi → upTo hi (from lo rows) ≡ else a → a ≡ look b rows
-unfolding look
-between lo hi A b a rows l h e = sym (ap (look b) e) ∙ look-up-to hi b (from lo rows) h ∙ look-from lo b rows l
+-- the rows from lo on
+pub onwards : (lo : ℕ) (A : Type 0) (b : ℕ) (a : A) (rows : Rows A) → lo ≤ b → a ≡ look b (from lo rows) → a ≡ look b rows
+onwards lo A b a rows l e = e ∙ look-from lo b rows l
 
 pub beyond : (lo : ℕ) (A : Type 0) (b : ℕ) (a : A) (rows : Rows A) → lo ≤ b → from lo rows ≡ else a → a ≡ look b rows
 unfolding look
-beyond lo A b a rows l e = sym (ap (look b) e) ∙ look-from lo b rows l
+beyond lo A b a rows l e = onwards lo A b a rows l (sym (ap (look b) e))
 
 pub under : (hi : ℕ) (A : Type 0) (b : ℕ) (a : A) (rows : Rows A) → b < hi → upTo hi rows ≡ else a → a ≡ look b rows
 unfolding look
 under hi A b a rows h e = sym (ap (look b) e) ∙ look-up-to hi b rows h
+
+pub between : (lo hi : ℕ) (A : Type 0) (b : ℕ) (a : A) (rows : Rows A) → lo ≤ b → b < hi → upTo hi (from lo rows) ≡ else a → a ≡ look b rows
+between lo hi A b a rows l h e = onwards lo A b a rows l (under hi A b a (from lo rows) h e)

@@ -9,17 +9,26 @@ use Rattle.json.specs.declared.number.DigitStep.{DigitStep}
 use Rattle.json.specs.declared.number.DigitStep.the-variants.{Onward, Over}
 
 -- 43 is +, 45 -, 46 the point, 48 to 57 the digits, 69 and 101 E and e.
+abbrev pub firstDigit : Rows DigitStep
+firstDigit = below 48 Over (below 49 (Onward Zero) (below 58 (Onward Whole) (else Over)))
+
+abbrev pub digitTo : InNumber → Rows DigitStep
+digitTo n = below 48 Over (below 58 (Onward n) (else Over))
+
+abbrev pub marks : Rows DigitStep
+marks = below 69 Over (below 70 (Onward Mark) (below 101 Over (below 102 (Onward Mark) (else Over))))
+
 unfoldable pub onward : InNumber → ℕ → DigitStep
 unfolding look
-onward Start b = look b (below 45 Over (below 46 (Onward Minus) (below 48 Over (below 49 (Onward Zero) (below 58 (Onward Whole) (else Over))))))
-onward Minus b = look b (below 48 Over (below 49 (Onward Zero) (below 58 (Onward Whole) (else Over))))
-onward Zero b = look b (below 46 Over (below 47 (Onward Point) (below 69 Over (below 70 (Onward Mark) (below 101 Over (below 102 (Onward Mark) (else Over)))))))
-onward Whole b = look b (below 46 Over (below 47 (Onward Point) (below 48 Over (below 58 (Onward Whole) (below 69 Over (below 70 (Onward Mark) (below 101 Over (below 102 (Onward Mark) (else Over)))))))))
-onward Point b = look b (below 48 Over (below 58 (Onward Fraction) (else Over)))
-onward Fraction b = look b (below 48 Over (below 58 (Onward Fraction) (below 69 Over (below 70 (Onward Mark) (below 101 Over (below 102 (Onward Mark) (else Over)))))))
-onward Mark b = look b (below 43 Over (below 44 (Onward Sign) (below 45 Over (below 46 (Onward Sign) (below 48 Over (below 58 (Onward Power) (else Over)))))))
-onward Sign b = look b (below 48 Over (below 58 (Onward Power) (else Over)))
-onward Power b = look b (below 48 Over (below 58 (Onward Power) (else Over)))
+onward Start b = look b (below 45 Over (below 46 (Onward Minus) firstDigit))
+onward Minus b = look b firstDigit
+onward Zero b = look b (below 46 Over (below 47 (Onward Point) marks))
+onward Whole b = look b (below 46 Over (below 47 (Onward Point) (below 48 Over (below 58 (Onward Whole) marks))))
+onward Point b = look b (digitTo Fraction)
+onward Fraction b = look b (below 48 Over (below 58 (Onward Fraction) marks))
+onward Mark b = look b (below 43 Over (below 44 (Onward Sign) (below 45 Over (below 46 (Onward Sign) (digitTo Power)))))
+onward Sign b = look b (digitTo Power)
+onward Power b = look b (digitTo Power)
 
 -- Whether a number may end here.
 abbrev pub mayEnd : InNumber → Bool

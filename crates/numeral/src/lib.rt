@@ -4,33 +4,13 @@ use json::part::Part;
 ghost use mathlib.Core.Path.{_≡_};
 ghost use Prim.Native.Nat.{suc};
 ghost use lib.ListN.{drop};
-ghost use Rattle.json.specs.Number.{onward, mayEnd};
+ghost use Rattle.json.specs.Number.{firstDigit, digitTo, marks, onward, mayEnd};
+ghost use Rattle.json.specs.Rows.{look};
 ghost use Rattle.json.specs.Part.{numberStop, Stops};
 ghost use Rattle.json.specs.declared.number.InNumber.the-variants.{Start};
 
-fn after_start(b: u8) -> DigitStep
-    ensures { λ r. ⌜ r ≡ onward InNumber.Start b ⌝ }
-{
-    if b < 45 {
-        return DigitStep::Over;
-    }
-    if b < 46 {
-        return DigitStep::Onward(InNumber::Minus);
-    }
-    if b < 48 {
-        return DigitStep::Over;
-    }
-    if b < 49 {
-        return DigitStep::Onward(InNumber::Zero);
-    }
-    if b < 58 {
-        return DigitStep::Onward(InNumber::Whole);
-    }
-    DigitStep::Over
-}
-
-fn after_minus(b: u8) -> DigitStep
-    ensures { λ r. ⌜ r ≡ onward InNumber.Minus b ⌝ }
+fn first_digit(b: u8) -> DigitStep
+    ensures { λ r. ⌜ r ≡ look b firstDigit ⌝ }
 {
     if b < 48 {
         return DigitStep::Over;
@@ -44,15 +24,22 @@ fn after_minus(b: u8) -> DigitStep
     DigitStep::Over
 }
 
-fn after_zero(b: u8) -> DigitStep
-    ensures { λ r. ⌜ r ≡ onward InNumber.Zero b ⌝ }
+fn digit_to(next: InNumber, b: u8) -> DigitStep
+    ensures { λ r. ⌜ r ≡ look b (digitTo next) ⌝ }
 {
-    if b < 46 {
+    if b < 48 {
         return DigitStep::Over;
     }
-    if b < 47 {
-        return DigitStep::Onward(InNumber::Point);
+    if b < 58 {
+        return DigitStep::Onward(next);
     }
+    DigitStep::Over
+}
+
+// E or e.
+fn mark(b: u8) -> DigitStep
+    ensures { λ r. ⌜ r ≡ look b marks ⌝ }
+{
     if b < 69 {
         return DigitStep::Over;
     }
@@ -68,23 +55,35 @@ fn after_zero(b: u8) -> DigitStep
     DigitStep::Over
 }
 
+fn after_start(b: u8) -> DigitStep
+    ensures { λ r. ⌜ r ≡ onward InNumber.Start b ⌝ }
+{
+    if 46 <= b {
+        return first_digit(b);
+    }
+    if 45 <= b {
+        return DigitStep::Onward(InNumber::Minus);
+    }
+    DigitStep::Over
+}
+
+fn after_zero(b: u8) -> DigitStep
+    ensures { λ r. ⌜ r ≡ onward InNumber.Zero b ⌝ }
+{
+    if 47 <= b {
+        return mark(b);
+    }
+    if 46 <= b {
+        return DigitStep::Onward(InNumber::Point);
+    }
+    DigitStep::Over
+}
+
 fn after_whole(b: u8) -> DigitStep
     ensures { λ r. ⌜ r ≡ onward InNumber.Whole b ⌝ }
 {
     if 58 <= b {
-        if b < 69 {
-            return DigitStep::Over;
-        }
-        if b < 70 {
-            return DigitStep::Onward(InNumber::Mark);
-        }
-        if b < 101 {
-            return DigitStep::Over;
-        }
-        if b < 102 {
-            return DigitStep::Onward(InNumber::Mark);
-        }
-        return DigitStep::Over;
+        return mark(b);
     }
     if 48 <= b {
         return DigitStep::Onward(InNumber::Whole);
@@ -98,38 +97,14 @@ fn after_whole(b: u8) -> DigitStep
     DigitStep::Over
 }
 
-fn after_point(b: u8) -> DigitStep
-    ensures { λ r. ⌜ r ≡ onward InNumber.Point b ⌝ }
-{
-    if b < 48 {
-        return DigitStep::Over;
-    }
-    if b < 58 {
-        return DigitStep::Onward(InNumber::Fraction);
-    }
-    DigitStep::Over
-}
-
 fn after_fraction(b: u8) -> DigitStep
     ensures { λ r. ⌜ r ≡ onward InNumber.Fraction b ⌝ }
 {
-    if b < 48 {
-        return DigitStep::Over;
+    if 58 <= b {
+        return mark(b);
     }
-    if b < 58 {
+    if 48 <= b {
         return DigitStep::Onward(InNumber::Fraction);
-    }
-    if b < 69 {
-        return DigitStep::Over;
-    }
-    if b < 70 {
-        return DigitStep::Onward(InNumber::Mark);
-    }
-    if b < 101 {
-        return DigitStep::Over;
-    }
-    if b < 102 {
-        return DigitStep::Onward(InNumber::Mark);
     }
     DigitStep::Over
 }
@@ -137,53 +112,35 @@ fn after_fraction(b: u8) -> DigitStep
 fn after_mark(b: u8) -> DigitStep
     ensures { λ r. ⌜ r ≡ onward InNumber.Mark b ⌝ }
 {
-    if b < 43 {
-        return DigitStep::Over;
+    if 46 <= b {
+        return digit_to(InNumber::Power, b);
     }
-    if b < 44 {
+    if 45 <= b {
         return DigitStep::Onward(InNumber::Sign);
     }
-    if b < 45 {
+    if 44 <= b {
         return DigitStep::Over;
     }
-    if b < 46 {
+    if 43 <= b {
         return DigitStep::Onward(InNumber::Sign);
-    }
-    if b < 48 {
-        return DigitStep::Over;
-    }
-    if b < 58 {
-        return DigitStep::Onward(InNumber::Power);
     }
     DigitStep::Over
 }
 
-fn after_power(b: u8) -> DigitStep
-    ensures { λ r. ⌜ r ≡ onward InNumber.Power b ⌝ }
-{
-    if b < 48 {
-        return DigitStep::Over;
-    }
-    if b < 58 {
-        return DigitStep::Onward(InNumber::Power);
-    }
-    DigitStep::Over
-}
-
-// What a byte does in a part of a number. Behind the exponent's sign stands what stands behind a digit of it.
+// What a byte does in a part of a number.
 fn digit_after(part: InNumber, b: u8) -> DigitStep
     ensures { λ r. ⌜ r ≡ onward part b ⌝ }
 {
     match part {
         InNumber::Start => after_start(b),
-        InNumber::Minus => after_minus(b),
+        InNumber::Minus => first_digit(b),
         InNumber::Zero => after_zero(b),
         InNumber::Whole => after_whole(b),
-        InNumber::Point => after_point(b),
+        InNumber::Point => digit_to(InNumber::Fraction, b),
         InNumber::Fraction => after_fraction(b),
         InNumber::Mark => after_mark(b),
-        InNumber::Sign => after_power(b),
-        InNumber::Power => after_power(b),
+        InNumber::Sign => digit_to(InNumber::Power, b),
+        InNumber::Power => digit_to(InNumber::Power, b),
     }
 }
 

@@ -1,8 +1,8 @@
 -- What one byte does: brackets opened and shut, and what stands behind a value.
 use Prim.Native.Nat.{ℕ, zero, suc, _+_, _-_, _*_, _/_, _%_, _<_, _≤_}
 use mathlib.Core.Path.{_≡_, refl}
-use mathlib.Core.List.{List}
-use mathlib.Core.Bool.{false}
+use mathlib.Core.List.{List, _∷_}
+use mathlib.Core.Bool.{Bool, true, false, cond}
 use lib.ListN.{drop}
 use lib.Dec.{eqb}
 use native.Mathlib.Numerals.{add-one, sub-one}
@@ -11,9 +11,10 @@ use borrow.Author.Tests.{lt-ltb, le-ltb}
 use Rattle.json.specs.Rows.{choose}
 use Rattle.json.specs.Byte.{isBlank}
 use Rattle.json.specs.Walk as W
-use Rattle.json.specs.Walk.{go, step, walk, end, refused2, refused3}
-use Rattle.walk.specs.Turn.{modeOf, kind, frames, steps}
+use Rattle.json.specs.Walk.{Frame, aList, anObject, go, step, stepBehind, walk, end, refused2, refused3}
+use Rattle.walk.specs.Turn.{modeOf, kind, afterComma, closerOf, frames, steps}
 use Rattle.walk.specs.declared.Mode.{Mode}
+use Rattle.walk.specs.declared.Mode.the-variants.{Value, Name}
 use Rattle.walk.proofs.Frames.{length-frames, frames-pushed, frames-top}
 
 module _ (text : List ℕ) (at : ℕ) where
@@ -41,13 +42,13 @@ module _ (text : List ℕ) (at : ℕ) where
   shuts (suc zero) n h = absurd (omega arith)
   shuts (suc (suc d)) n h = rw (add-one, sub-one (suc (suc d)))
 
-module _ (b d n : ℕ) (full : 0 < d) (blank : isBlank b ≡ false) where
-  pub behind-element : n % 2 ≡ 0
-      → step W.behind b (frames d n) ≡ choose (eqb b 44) (λ _. go W.value (frames d n)) λ _. choose (eqb b 93) (λ _. W.shut (frames d n)) λ _. W.wrong
-  unfolding step
-  behind-element e = rw (frames-top d n full, e, blank)
-
-  pub behind-member : n % 2 ≡ 1
-      → step W.behind b (frames d n) ≡ choose (eqb b 44) (λ _. go W.name (frames d n)) λ _. choose (eqb b 125) (λ _. W.shut (frames d n)) λ _. W.wrong
-  unfolding step
-  behind-member e = rw (frames-top d n full, e, blank)
+pub behind-full : (b d n : ℕ) → 0 < d → isBlank b ≡ false
+    → step W.behind b (frames d n)
+    ≡ choose (eqb b 44) (λ _. go (modeOf (afterComma n)) (frames d n)) λ _. choose (eqb b (closerOf n)) (λ _. W.shut (frames d n)) λ _. W.wrong
+unfolding step
+behind-full b d n full blank = rw (frames-top d n full) (by (eqb (n % 2) 0) (frames (d - 1) (n / 2)))
+  where
+    by : (t : Bool) (k : List Frame) → stepBehind b (cond t aList anObject ∷ k)
+        ≡ choose (eqb b 44) (λ _. go (modeOf (cond t Value Name)) (cond t aList anObject ∷ k)) λ _. choose (eqb b (cond t 93 125)) (λ _. W.shut (cond t aList anObject ∷ k)) λ _. W.wrong
+    by true k = rw blank
+    by false k = rw blank

@@ -67,6 +67,13 @@ pub record Byte (mode : Mode) (b : ℕ) : Type 0 where
 abbrev pub kind : ℕ → Frame
 kind bit = cond (eqb bit 0) aList anObject
 
+-- What a comma leads to, and the byte that closes, by the innermost bracket.
+abbrev pub afterComma : ℕ → Mode
+afterComma kinds = cond (eqb (kinds % 2) 0) Value Name
+
+abbrev pub closerOf : ℕ → ℕ
+closerOf kinds = cond (eqb (kinds % 2) 0) 93 125
+
 unfoldable pub frames : ℕ → ℕ → List Frame
 frames zero kinds = []
 frames (suc depth) kinds = kind (kinds % 2) ∷ frames depth (kinds / 2)

@@ -5,13 +5,13 @@ use scan::string;
 ghost use mathlib.Core.Path.{_≡_};
 ghost use mathlib.Core.List.{[], _∷_};
 ghost use mathlib.Core.Bool.{false};
-ghost use Prim.Native.Nat.{suc, _<_, _≤_, _%_};
+ghost use Prim.Native.Nat.{suc, _<_, _≤_};
 ghost use lib.ListN.{length, drop, getD};
 ghost use Rattle.json.specs.Byte.{isBlank};
 ghost use Rattle.json.specs.Part.{wordStop, Stops};
 ghost use Rattle.json.specs.Walk.{walk, anObject, firstObject, oneObject};
 ghost use Rattle.json.specs.Walk as W;
-ghost use Rattle.walk.specs.Turn.{modeOf, kind, frames, Open, steps, behindPart, plainStop, behindQuoted, closesEmpty, takesValue, Byte, Turned, Tells};
+ghost use Rattle.walk.specs.Turn.{modeOf, kind, afterComma, closerOf, frames, Open, steps, behindPart, plainStop, behindQuoted, closesEmpty, takesValue, Byte, Turned, Tells};
 
 // The place behind the object; or refusal 2, or refusal 3, with its place.
 pub enum End {
@@ -224,46 +224,27 @@ fn colon(text: &[u8], at: usize, depth: usize, kinds: u64) -> Turn
     Turn::Bad(at)
 }
 
-// Behind an element of a list.
-fn behind_element(text: &[u8], at: usize, depth: usize, kinds: u64) -> Turn
-    requires { ⌜ (at < length (now text)) × (isBlank (getD (now text) at 0) ≡ false) × Open depth kinds × (0 < depth) × (kinds % 2 ≡ 0) ⌝ }
-    ensures { λ r. ⌜ Turned (now (text .entry)) at (walk W.behind (frames depth kinds) (drop at (now (text .entry)))) r ⌝ }
+// What a comma leads to, by the innermost bracket.
+fn after_comma(kinds: u64) -> Mode
+    ensures { λ r. ⌜ r ≡ afterComma kinds ⌝ }
 {
-    let b = text[at];
-    if b == b',' {
-        return Turn::Go(Walk {
-            at: at + 1,
-            mode: Mode::Value,
-            depth: depth,
-            kinds: kinds,
-        });
+    if kinds % 2 == 0 {
+        return Mode::Value;
     }
-    if b == b']' {
-        return shut(text, at, depth, kinds);
-    }
-    Turn::Bad(at)
+    Mode::Name
 }
 
-// Behind a member of an object.
-fn behind_member(text: &[u8], at: usize, depth: usize, kinds: u64) -> Turn
-    requires { ⌜ (at < length (now text)) × (isBlank (getD (now text) at 0) ≡ false) × Open depth kinds × (0 < depth) × (kinds % 2 ≡ 1) ⌝ }
-    ensures { λ r. ⌜ Turned (now (text .entry)) at (walk W.behind (frames depth kinds) (drop at (now (text .entry)))) r ⌝ }
+// The byte that closes the innermost bracket.
+fn closer(kinds: u64) -> u8
+    ensures { λ r. ⌜ r ≡ closerOf kinds ⌝ }
 {
-    let b = text[at];
-    if b == b',' {
-        return Turn::Go(Walk {
-            at: at + 1,
-            mode: Mode::Name,
-            depth: depth,
-            kinds: kinds,
-        });
+    if kinds % 2 == 0 {
+        return b']';
     }
-    if b == b'}' {
-        return shut(text, at, depth, kinds);
-    }
-    Turn::Bad(at)
+    b'}'
 }
 
+// Behind a value.
 fn behind(text: &[u8], at: usize, depth: usize, kinds: u64) -> Turn
     requires { ⌜ (at < length (now text)) × (isBlank (getD (now text) at 0) ≡ false) × Open depth kinds ⌝ }
     ensures { λ r. ⌜ Turned (now (text .entry)) at (walk W.behind (frames depth kinds) (drop at (now (text .entry)))) r ⌝ }
@@ -271,10 +252,19 @@ fn behind(text: &[u8], at: usize, depth: usize, kinds: u64) -> Turn
     if depth == 0 {
         return Turn::Bad(at);
     }
-    if kinds % 2 == 0 {
-        return behind_element(text, at, depth, kinds);
+    let b = text[at];
+    if b == b',' {
+        return Turn::Go(Walk {
+            at: at + 1,
+            mode: after_comma(kinds),
+            depth: depth,
+            kinds: kinds,
+        });
     }
-    behind_member(text, at, depth, kinds)
+    if b == closer(kinds) {
+        return shut(text, at, depth, kinds);
+    }
+    Turn::Bad(at)
 }
 
 // No value may stand here: a colon, what stands behind a value, or a byte that is wrong.

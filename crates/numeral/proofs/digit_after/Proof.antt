@@ -1,4 +1,4 @@
--- One answer for each part of a number; behind the sign stands what stands behind a digit of the exponent.
+-- One answer for each part of a number.
 use Rattle.json.specs.Number.{onward}
 use borrow.Author.Needs.{needs}
 use Rattle.numeral.proofs.digit_after.Statement.{statement}
@@ -13,8 +13,8 @@ after-start-requires c κs = search needs
 enum-told-2 : tie.Need-enum-told-2
 enum-told-2 c = search needs
 
-after-minus-requires : tie.Need-after-minus-requires
-after-minus-requires c κs = search needs
+first-digit-requires : tie.Need-first-digit-requires
+first-digit-requires c κs = search needs
 
 enum-told-3 : tie.Need-enum-told-3
 enum-told-3 c = search needs
@@ -31,8 +31,8 @@ after-whole-requires c κs = search needs
 enum-told-5 : tie.Need-enum-told-5
 enum-told-5 c = search needs
 
-after-point-requires : tie.Need-after-point-requires
-after-point-requires c κs = search needs
+digit-to-requires : tie.Need-digit-to-requires
+digit-to-requires c κs = search needs
 
 enum-told-6 : tie.Need-enum-told-6
 enum-told-6 c = search needs
@@ -49,20 +49,21 @@ after-mark-requires c κs = search needs
 enum-told-8 : tie.Need-enum-told-8
 enum-told-8 c = search needs
 
-after-power-requires : tie.Need-after-power-requires
-after-power-requires c κs = search needs
+digit-to-requires-2 : tie.Need-digit-to-requires-2
+digit-to-requires-2 c κs = search needs
 
 enum-told-9 : tie.Need-enum-told-9
 enum-told-9 c = search needs
 
-after-power-requires-2 : tie.Need-after-power-requires-2
-after-power-requires-2 c κs = search needs
+digit-to-requires-3 : tie.Need-digit-to-requires-3
+digit-to-requires-3 c κs = search needs
 
 returns : tie.Need-returns
 returns c = rw (c .before .enum-told .given .1) (c .after-start .ensures)
 
 returns-2 : tie.Need-returns-2
-returns-2 c = rw (c .before .enum-told2 .given .1) (c .after-minus .ensures)
+unfolding onward
+returns-2 c = rw (c .before .enum-told2 .given .1) (c .first-digit .ensures)
 
 returns-3 : tie.Need-returns-3
 returns-3 c = rw (c .before .enum-told3 .given .1) (c .after-zero .ensures)
@@ -71,7 +72,8 @@ returns-4 : tie.Need-returns-4
 returns-4 c = rw (c .before .enum-told4 .given .1) (c .after-whole .ensures)
 
 returns-5 : tie.Need-returns-5
-returns-5 c = rw (c .before .enum-told5 .given .1) (c .after-point .ensures)
+unfolding onward
+returns-5 c = rw (c .before .enum-told5 .given .1) (c .digit-to .ensures)
 
 returns-6 : tie.Need-returns-6
 returns-6 c = rw (c .before .enum-told6 .given .1) (c .after-fraction .ensures)
@@ -81,10 +83,11 @@ returns-7 c = rw (c .before .enum-told7 .given .1) (c .after-mark .ensures)
 
 returns-8 : tie.Need-returns-8
 unfolding onward
-returns-8 c = rw (c .before .enum-told8 .given .1) (c .after-power .ensures)
+returns-8 c = rw (c .before .enum-told8 .given .1) (c .digit-to2 .ensures)
 
 returns-9 : tie.Need-returns-9
-returns-9 c = rw (c .before .enum-told9 .given .1) (c .after-power2 .ensures)
+unfolding onward
+returns-9 c = rw (c .before .enum-told9 .given .1) (c .digit-to3 .ensures)
 
 pub digit-after-spec : {M : Type 1} → statement M
 digit-after-spec =
@@ -93,21 +96,21 @@ digit-after-spec =
     enum-told
     after-start-requires
     enum-told-2
-    after-minus-requires
+    first-digit-requires
     enum-told-3
     after-zero-requires
     enum-told-4
     after-whole-requires
     enum-told-5
-    after-point-requires
+    digit-to-requires
     enum-told-6
     after-fraction-requires
     enum-told-7
     after-mark-requires
     enum-told-8
-    after-power-requires
+    digit-to-requires-2
     enum-told-9
-    after-power-requires-2
+    digit-to-requires-3
     returns
     returns-2
     returns-3
