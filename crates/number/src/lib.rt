@@ -1,4 +1,5 @@
 // Numbers by document 01: integers, rounded, and decimals in millionths, with refusals 8 and 9.
+use scan::byte;
 ghost use mathlib.Core.Path.{_≡_};
 ghost use Prim.Native.Nat.{_≤_, _<_, _^_};
 ghost use lib.ListN.{length, drop, take};
@@ -75,12 +76,6 @@ fn point_at(raw: &[u8]) -> usize
     i
 }
 
-fn wide(b: u8) -> u64
-    ensures { λ r. ⌜ r ≡ b ⌝ }
-{
-    b as u64
-}
-
 fn figure(b: u8) -> u64
     ensures { λ r. ⌜ r ≡ figureOf b ⌝ }
     ensures { λ r. ⌜ r ≤ 9 ⌝ }
@@ -89,7 +84,7 @@ fn figure(b: u8) -> u64
         return 0;
     }
     if b < 58 {
-        return wide(b) - 48;
+        return byte::wide(b) - 48;
     }
     0
 }

@@ -1,6 +1,7 @@
 // Bytes by their kinds.
 ghost use mathlib.Core.Path.{_≡_};
-ghost use Rattle.json.specs.Byte.{isBlank, isHex, isD, is8ToB, isCToF, within as between, blanked};
+ghost use Prim.Native.Nat.{_<_};
+ghost use Rattle.json.specs.Byte.{isBlank, isHex, isD, is8ToB, isCToF, within as between, digit, blanked};
 ghost use Rattle.json.specs.Tree.{Moves};
 
 pub fn is_blank(b: u8) -> bool
@@ -122,6 +123,38 @@ pub fn is_c_to_f(b: u8) -> bool
         return true;
     }
     false
+}
+
+pub fn wide(b: u8) -> u64
+    ensures { λ r. ⌜ r ≡ b ⌝ }
+{
+    b as u64
+}
+
+// What a hexadecimal digit counts.
+pub fn digit_of(b: u8) -> u64
+    ensures { λ r. ⌜ r ≡ digit b ⌝ }
+    ensures { λ r. ⌜ r < 16 ⌝ }
+{
+    if b < 48 {
+        return 0;
+    }
+    if b < 58 {
+        return wide(b) - 48;
+    }
+    if b < 65 {
+        return 0;
+    }
+    if b < 71 {
+        return wide(b) - 55;
+    }
+    if b < 97 {
+        return 0;
+    }
+    if b < 103 {
+        return wide(b) - 87;
+    }
+    0
 }
 
 // The first place from `at` on whose byte is no blank.

@@ -1,4 +1,5 @@
 // Strings of a walked text, decoded as they are looked at: names compared, bytes counted and laid into a lent buffer. No copy is made to compare.
+use scan::byte;
 use scan::string;
 use json::string::{CharStep, InString, Letter};
 ghost use mathlib.Core.Path.{_≡_};
@@ -7,7 +8,7 @@ ghost use mathlib.Core.Bool.{false};
 ghost use Prim.Native.Nat.{_+_, _<_, _≤_};
 ghost use lib.ListN.{length, drop, getD};
 ghost use lib.Seq.{sets};
-ghost use Rattle.json.specs.Byte.{digit, utf8};
+ghost use Rattle.json.specs.Byte.{utf8};
 ghost use Rattle.json.specs.String.{oneMore, gather, point, meant, given as givenBy};
 ghost use Rattle.moving.specs.Read.{decoded};
 ghost use Rattle.string.specs.Strings.{same, bytesOf, ahead, Sound, Gives, laid, buffered};
@@ -34,44 +35,12 @@ pub struct NextByte {
     pub cursor: Cursor,
 }
 
-fn wide(b: u8) -> u64
-    ensures { λ r. ⌜ r ≡ b ⌝ }
-{
-    b as u64
-}
-
-// What a hexadecimal digit counts.
-fn digit_of(b: u8) -> u64
-    ensures { λ r. ⌜ r ≡ digit b ⌝ }
-    ensures { λ r. ⌜ r < 16 ⌝ }
-{
-    if b < 48 {
-        return 0;
-    }
-    if b < 58 {
-        return wide(b) - 48;
-    }
-    if b < 65 {
-        return 0;
-    }
-    if b < 71 {
-        return wide(b) - 55;
-    }
-    if b < 97 {
-        return 0;
-    }
-    if b < 103 {
-        return wide(b) - 87;
-    }
-    0
-}
-
 fn one_more(v: u64, b: u8) -> u64
     requires { ⌜ v < 0x100000000 ⌝ }
     ensures { λ r. ⌜ r ≡ oneMore v b ⌝ }
     ensures { λ r. ⌜ r < 0x100000000 ⌝ }
 {
-    (v * 16 + digit_of(b)) % 0x100000000
+    (v * 16 + byte::digit_of(b)) % 0x100000000
 }
 
 // The digits gathered with this byte.
@@ -83,7 +52,7 @@ fn gathered(state: InString, v: u64, b: u8) -> u64
     match state {
         InString::Plain => 0,
         InString::Escape => 0,
-        InString::Unit => digit_of(b),
+        InString::Unit => byte::digit_of(b),
         InString::UnitD => one_more(v, b),
         InString::Digit3 => one_more(v, b),
         InString::Digit2 => one_more(v, b),

@@ -1,5 +1,6 @@
 // Runs the walk over outside vectors on standard input, a line each: t (a text) or r (a run) and the bytes in hexadecimal.
 // Answers `2 PLACE`, `3 PLACE` or `taken`, a line each.
+use scan::byte;
 use walk::End;
 
 // Of a line: its letter, how many of its bytes are in the buffer, and the digit before the next one.
@@ -7,7 +8,7 @@ struct Line {
     letter: u8,
     bytes: usize,
     half: bool,
-    high: u8,
+    high: u64,
 }
 
 fn fresh() -> Line {
@@ -38,22 +39,6 @@ fn answer(letter: u8, text: &[u8]) {
     }
 }
 
-fn digit(b: u8) -> u8 {
-    if b < 48 {
-        return 0;
-    }
-    if b < 58 {
-        return b - 48;
-    }
-    if b < 97 {
-        return 0;
-    }
-    if b < 103 {
-        return b - 87;
-    }
-    0
-}
-
 // The line with one character more; its end is answered.
 fn with(line: Line, b: u8, text: &mut [u8]) -> Line {
     let n = line.bytes;
@@ -67,10 +52,10 @@ fn with(line: Line, b: u8, text: &mut [u8]) -> Line {
         return Line { letter: b, bytes: 0, half: false, high: 0 };
     }
     if !line.half {
-        return Line { letter: line.letter, bytes: n, half: true, high: digit(b) };
+        return Line { letter: line.letter, bytes: n, half: true, high: byte::digit_of(b) };
     }
     if n < text.len() {
-        text[n] = line.high % 16 * 16 + digit(b) % 16;
+        text[n] = (line.high % 16 * 16 + byte::digit_of(b)) as u8;
         return Line { letter: line.letter, bytes: n + 1, half: false, high: 0 };
     }
     line

@@ -23,8 +23,8 @@ returns c = search needs
 returns-2 : tie.Need-returns-2
 returns-2 c = search needs
 
-digit-requires : tie.Need-digit-requires
-digit-requires c κs = search needs
+digit-of-requires : tie.Need-digit-of-requires
+digit-of-requires c κs = search needs
 
 returns-3 : tie.Need-returns-3
 returns-3 c = search needs
@@ -32,11 +32,14 @@ returns-3 c = search needs
 mul-text : tie.Need-mul-text
 mul-text c = search needs
 
-digit-requires-2 : tie.Need-digit-requires-2
-digit-requires-2 c κs = search needs
+digit-of-requires-2 : tie.Need-digit-of-requires-2
+digit-of-requires-2 c κs = search needs
 
 add-text : tie.Need-add-text
 add-text c = search needs
+
+cast-text : tie.Need-cast-text
+cast-text c = search needs
 
 slice-write-text : tie.Need-slice-write-text
 slice-write-text c = search needs
@@ -63,11 +66,12 @@ with-spec =
     fresh-requires
     returns
     returns-2
-    digit-requires
+    digit-of-requires
     returns-3
     mul-text
-    digit-requires-2
+    digit-of-requires-2
     add-text
+    cast-text
     slice-write-text
     add-t19
     same-length

@@ -1,9 +1,10 @@
+-- Each answer is that of a row of the table `digit`.
 use native.Mathlib.Omega.{arith}
 use borrow.Author.Needs.{needs}
 use Rattle.json.proofs.Rows.{rows}
 use Rattle.json.specs.Byte.{digit}
-use Rattle.string.proofs.digit_of.Statement.{statement}
-use Rattle.string.proofs.digit_of.Tie as tie
+use Rattle.scan.proofs.byte.digit_of.Statement.{statement}
+use Rattle.scan.proofs.byte.digit_of.Tie as tie
 
 returns : tie.Need-returns
 unfolding digit
