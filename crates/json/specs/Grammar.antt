@@ -2,7 +2,7 @@
 use Prim.Native.Nat.{ℕ, _+_, _*_, _-_}
 use mathlib.Core.Path.{_≡_}
 use mathlib.Core.List.{List, [], _∷_, _++_}
-use mathlib.Core.Bool.{Bool, true, false}
+use mathlib.Core.Bool.{true, false}
 use Rattle.json.specs.Byte.{isBlank, isNumeric, isHex, isD, isTo7, is8ToB, isCToF, isTail, within, digit, utf8}
 use Rattle.json.specs.Tree.{Place, Tree, object, list, string, number, bool, null, Members, noMember, member, Elements, noElement, element}
 use Rattle.json.specs.String.{lead, letter}

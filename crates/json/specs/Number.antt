@@ -1,7 +1,6 @@
 -- A number, byte by byte (RFC 8259, section 6): what may stand next, part by part.
 use Prim.Native.Nat.{ℕ}
-use mathlib.Core.List.{List, [], _∷_}
-use mathlib.Core.Bool.{Bool, true, false, cond}
+use mathlib.Core.Bool.{Bool, true, false}
 use Rattle.json.specs.Rows.{Rows, else, below, look}
 use Rattle.json.specs.declared.number.InNumber.{InNumber}
 use Rattle.json.specs.declared.number.InNumber.the-variants.{Start, Minus, Zero, Whole, Point, Fraction, Mark, Sign, Power}

@@ -1,8 +1,8 @@
 -- Where a part of a text ends, a string, a number or a word: the place behind it, or the first byte that breaks it.
-use Prim.Native.Nat.{ℕ, _<_, _≤_}
+use Prim.Native.Nat.{ℕ, _≤_}
 use mathlib.Core.Path.{_≡_}
 use mathlib.Core.List.{List, [], _∷_}
-use mathlib.Core.Bool.{Bool, true, false, cond}
+use mathlib.Core.Bool.{cond}
 use lib.ListN.{length, drop}
 use lib.Dec.{eqb}
 use Rattle.json.specs.Rows.{choose}
@@ -10,10 +10,8 @@ use Rattle.json.specs.Tree.{Place}
 use Rattle.json.specs.String.{after}
 use Rattle.json.specs.Number.{onward, mayEnd}
 use Rattle.json.specs.declared.string.InString.{InString}
-use Rattle.json.specs.declared.string.CharStep.{CharStep}
 use Rattle.json.specs.declared.string.CharStep.the-variants.{Goes, Closes, Refuses}
 use Rattle.json.specs.declared.number.InNumber.{InNumber}
-use Rattle.json.specs.declared.number.DigitStep.{DigitStep}
 use Rattle.json.specs.declared.number.DigitStep.the-variants.{Onward, Over}
 use Rattle.json.specs.declared.part.Part.{Part}
 use Rattle.json.specs.declared.part.Part.the-variants.{Past, Torn}

@@ -3,7 +3,7 @@ use Prim.Native.Nat.{ℕ, _+_, _*_, _/_, _%_}
 use mathlib.Core.List.{List, [], _∷_, _++_}
 use mathlib.Core.Bool.{Bool, true, false, cond}
 use lib.Dec.{eqb}
-use Rattle.json.specs.Rows.{Rows, else, below, look}
+use Rattle.json.specs.Rows.{else, below, look}
 use Rattle.json.specs.Byte.{within, isHex, isD, isTo7, is8ToB, isCToF, isTail, digit, utf8}
 use Rattle.json.specs.declared.string.Lead.{Lead}
 use Rattle.json.specs.declared.string.Lead.the-variants.{Control, Ascii, Quote, Backslash, Stray, Two, E0, Three, Ed, F0, Four, F4}

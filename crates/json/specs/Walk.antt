@@ -2,7 +2,6 @@
 -- (document 01, "Answers by number": rows 2 and 3, and the order line).
 use Prim.Native.Nat.{ℕ}
 use mathlib.Core.List.{List, [], _∷_}
-use mathlib.Core.Bool.{Bool, true, false, cond}
 use lib.ListN.{length}
 use lib.Dec.{eqb, ltb}
 use Rattle.json.specs.Rows.{choose}

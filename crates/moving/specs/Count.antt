@@ -1,10 +1,9 @@
 -- How many elements a list has.
-use Prim.Native.Nat.{ℕ, zero, suc}
+use Prim.Native.Nat.{ℕ, suc}
 use mathlib.Core.List.{List}
-use lib.ListN.{length, drop}
-use Rattle.json.specs.Rows.{choose}
+use lib.ListN.{length}
 use Rattle.json.specs.Tree.{Place, Elements, noElement, element}
-use Rattle.moving.specs.Moving.{firstIn, nextAfter, atEnd}
+use Rattle.moving.specs.Moving.{firstIn}
 use Rattle.moving.specs.Read.{elementsAt}
 
 abbrev pub count : Elements → ℕ

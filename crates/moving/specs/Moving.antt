@@ -1,10 +1,10 @@
 -- Moving about a text that was walked: from a place to the next, each as what is left there. What was walked is not looked at for faults again.
 use Prim.Native.Nat.{ℕ, zero, suc}
-use mathlib.Core.List.{List, [], _∷_, tail}
-use mathlib.Core.Bool.{Bool, true, false, _||_}
+use mathlib.Core.List.{[], _∷_, tail}
+use mathlib.Core.Bool.{Bool, true, _||_}
 use lib.ListN.{drop}
 use lib.Dec.{eqb}
-use Rattle.json.specs.Rows.{Rows, else, below, look, choose}
+use Rattle.json.specs.Rows.{else, below, look, choose}
 use Rattle.json.specs.Byte.{isNumeric, blanked}
 use Rattle.json.specs.Tree.{Place}
 use Rattle.moving.specs.declared.Kind.{Kind}

@@ -1,7 +1,7 @@
 -- The tree of a text that was walked, as moving about it finds it. Each step moves on, so the length is steps enough.
 use Prim.Native.Nat.{ℕ, zero, suc}
 use mathlib.Core.List.{List, [], _∷_, tail}
-use mathlib.Core.Bool.{Bool, true, false}
+use mathlib.Core.Bool.{true, false}
 use lib.ListN.{length}
 use Rattle.json.specs.Rows.{choose}
 use Rattle.json.specs.Byte.{isNumeric, blanked}
@@ -9,7 +9,6 @@ use Rattle.json.specs.Tree.{Place, Tree, object, list, string, number, bool, nu
 use Rattle.json.specs.String.{chars}
 use Rattle.json.specs.declared.string.InString.the-variants.{Plain}
 use Rattle.moving.specs.Moving.{kindOf, firstIn, nextAfter, valueOf, atEnd}
-use Rattle.moving.specs.declared.Kind.{Kind}
 use Rattle.moving.specs.declared.Kind.the-variants.{Object, Array, Text, Number, True, False, Null}
 
 -- The decoded bytes of the string whose opening quote stands here.

@@ -4,7 +4,7 @@ use mathlib.Core.List.{List, [], _∷_}
 use mathlib.Core.Bool.{Bool, true, false, _&&_, _||_, not, cond}
 use lib.ListN.{length, drop}
 use lib.Dec.{eqb, leb, ltb}
-use Rattle.json.specs.Rows.{Rows, else, below, look, choose}
+use Rattle.json.specs.Rows.{else, below, look, choose}
 use Rattle.number.specs.declared.Integer.{Integer}
 use Rattle.number.specs.declared.Integer.the-variants.{Whole, NotCarried, Outside}
 use Rattle.number.specs.declared.Decimal.{Decimal}

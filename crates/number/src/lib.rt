@@ -2,7 +2,7 @@
 use scan::byte;
 ghost use mathlib.Core.Path.{_≡_};
 ghost use Prim.Native.Nat.{_≤_, _<_, _^_};
-ghost use lib.ListN.{length, drop, take};
+ghost use lib.ListN.{length, drop};
 ghost use Rattle.moving.specs.Read.{written};
 ghost use Rattle.number.specs.Number.{negative, exponent, carried, figure as figureOf, counted as countedIn, allZero, behindPoint, padded as paddedIn, up, among, integerIn, amount, decimalFrom};
 ghost use Rattle.number.specs.Point.{Parts};

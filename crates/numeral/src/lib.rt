@@ -1,5 +1,6 @@
 // A number, byte by byte, and where it ends.
-use json::number::{DigitStep, InNumber};
+use json::number::DigitStep;
+use json::number::InNumber;
 use json::part::Part;
 ghost use mathlib.Core.Path.{_≡_};
 ghost use Prim.Native.Nat.{suc};

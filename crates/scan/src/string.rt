@@ -1,7 +1,10 @@
 // The inside of a string, byte by byte, and where a string ends.
 use crate::byte;
 use json::part::Part;
-use json::string::{CharStep, InString, Lead, Letter};
+use json::string::CharStep;
+use json::string::InString;
+use json::string::Lead;
+use json::string::Letter;
 ghost use mathlib.Core.Path.{_≡_};
 ghost use lib.ListN.{drop};
 ghost use Rattle.json.specs.Byte.{isHex, within as between};

@@ -1,6 +1,6 @@
 -- What a cursor has ahead, and how a byte of the text takes it on.
-use Prim.Native.Nat.{ℕ, suc, _+_, _<_, _≤_}
-use mathlib.Core.Path.{_≡_, refl, sym, ap, subst, _∙_}
+use Prim.Native.Nat.{ℕ, _+_, _<_, _≤_}
+use mathlib.Core.Path.{_≡_, sym, ap, subst, _∙_}
 use mathlib.Core.Bool.{true, false, not}
 use mathlib.Core.List.{List, [], _∷_, _++_, tail}
 use lib.ListN.{length, getD, take, drop, length-take, drop-of-length-le}
@@ -99,7 +99,7 @@ module _ (text : List ℕ) (c : Cursor) where
   unfolding ahead
   gives-decoded s h four = record {
     bytes = rw (one-given (c .out .bytes) (c .out .n) (c .given) h (omega (arith, s .few)));
-    sound = record { few = s .few; small = s .small }
+    sound = record { few = s .few; small = s .small };
   }
 
   pub gives-nothing : (r : NextByte) → Sound c → ahead text c ≡ [] → (r .some ≡ false) × (r .cursor ≡ c) → Gives text c r
@@ -119,7 +119,7 @@ module _ (text : List ℕ) (c : Cursor) where
     unfolding ahead
     step-gives small few four pos = record {
       bytes = step ∙ ap (λ l. l ++ rest text n w (i + 1)) (one-given (o .bytes) (o .n) 0 pos (omega arith));
-      sound = record { few = few; small = small }
+      sound = record { few = few; small = small };
     }
 
 -- ---- what `next_byte` gives

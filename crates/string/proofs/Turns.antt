@@ -1,7 +1,7 @@
 -- Loops over the bytes that a cursor gives: what each keeps, and how the byte r that `next_byte` gave at c takes it on. T is what the loop is to answer.
 use Prim.Native.Nat.{ℕ, suc, _+_, _-_, _<_, _≤_}
 use mathlib.Core.Path.{_≡_, refl, sym, ap, _∙_}
-use mathlib.Core.List.{List, [], _∷_}
+use mathlib.Core.List.{List}
 use mathlib.Core.Bool.{Bool, true, false, not}
 use lib.ListN.{length, getD, drop, set, length-set}
 use lib.Seq.{sets}
@@ -128,7 +128,7 @@ module _ {text before : List ℕ} {to : ℕ} {bytes buffer : List ℕ} {c : Curs
       sound = g .sound;
       room = omega (arith, l .room, ap length (gives-one g e));
       sized = length-set buffer i (r .byte) ∙ l .sized;
-      answer = rw add-one (rw (gives-one g e) at (l .answer))
+      answer = rw add-one (rw (gives-one g e) at (l .answer));
     }
 
 module _ (buffer : List ℕ) (to : ℕ) (bytes : List ℕ) where

@@ -1,5 +1,5 @@
 -- Strings of a walked text by their decoded bytes (`decoded` of Read.antt): compared, counted and laid into a buffer as the escapes are undone.
-use Prim.Native.Nat.{ℕ, suc, _+_, _<_, _≤_}
+use Prim.Native.Nat.{ℕ, _+_, _<_, _≤_}
 use mathlib.Core.Path.{_≡_}
 use mathlib.Core.List.{List, [], _∷_, _++_}
 use mathlib.Core.Bool.{Bool, true, false, _&&_, cond}

@@ -9,7 +9,7 @@ use Rattle.json.specs.Walk.{Frame, aList, anObject, Next, onto, walk, Walked, e
 use Rattle.json.specs.Walk as W
 use Rattle.json.specs.Rows.{choose}
 use Rattle.json.specs.Byte.{isBlank}
-use Rattle.json.specs.Part.{Stop, past, torn, numberStop, wordStop}
+use Rattle.json.specs.Part.{Stop, torn, numberStop, wordStop}
 use Rattle.json.specs.declared.number.InNumber.the-variants.{Start}
 use Rattle.json.specs.declared.part.Part.{Part}
 use Rattle.json.specs.declared.part.Part.the-variants.{Past, Torn}

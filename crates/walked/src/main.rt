@@ -12,7 +12,12 @@ struct Line {
 }
 
 fn fresh() -> Line {
-    Line { letter: 0, bytes: 0, half: false, high: 0 }
+    Line {
+        letter: 0,
+        bytes: 0,
+        half: false,
+        high: 0,
+    }
 }
 
 fn say(word: &[u8], place: usize) {
@@ -49,14 +54,29 @@ fn with(line: Line, b: u8, text: &mut [u8]) -> Line {
         return fresh();
     }
     if line.letter == 0 {
-        return Line { letter: b, bytes: 0, half: false, high: 0 };
+        return Line {
+            letter: b,
+            bytes: 0,
+            half: false,
+            high: 0,
+        };
     }
     if !line.half {
-        return Line { letter: line.letter, bytes: n, half: true, high: byte::digit_of(b) };
+        return Line {
+            letter: line.letter,
+            bytes: n,
+            half: true,
+            high: byte::digit_of(b),
+        };
     }
     if n < text.len() {
         text[n] = (line.high % 16 * 16 + byte::digit_of(b)) as u8;
-        return Line { letter: line.letter, bytes: n + 1, half: false, high: 0 };
+        return Line {
+            letter: line.letter,
+            bytes: n + 1,
+            half: false,
+            high: 0,
+        };
     }
     line
 }

@@ -1,10 +1,9 @@
 use borrow.Author.Needs.{needs}
 use Prim.Native.Nat.{_-_, _<_}
-use mathlib.Core.Path.{_≡_, refl, sym, ap, _∙_}
+use mathlib.Core.Path.{_≡_, sym, _∙_}
 use lib.ListN.{length}
-use Rattle.string.proofs.Ahead.{rest, rest-goes, rest-closes, rest-refuses, rest-ends, all-given, one-given, ahead-over, gives-nothing, step-on, step-gives}
+use Rattle.string.proofs.Ahead.{rest, rest-closes, rest-refuses, rest-ends, ahead-over, gives-nothing, step-on, step-gives}
 use Rattle.string.specs.Strings.{ahead}
-use mathlib.Core.List.{_++_}
 use Rattle.string.proofs.decoded_byte.Statement.{statement}
 use Rattle.string.proofs.decoded_byte.Tie as tie
 
@@ -44,7 +43,7 @@ returns c =
     let g = c .before .before .before in
     let four : length (g .char-gives .result .bytes) ≡ 4 = search needs in
     step-gives _ _ _ _ _ _ _ (g .char-gives .result) (l .before .loop .inv .1) (l .loop-test .taken) (cc) (g .char-gives .ensures .0) (c .before .before .gathered .ensures .0)
-        (c .before .before .gathered .ensures .1) (g .char-gives .ensures .1) four (c .before .if1 .taken)
+    (c .before .before .gathered .ensures .1) (g .char-gives .ensures .1) four (c .before .if1 .taken)
 
 loop-less : tie.Need-loop-less Inv-loop μ-loop
 loop-less c = search needs

@@ -1,13 +1,9 @@
-use native.Mathlib.Omega.{arith}
 use borrow.Author.Needs.{needs}
-use Prim.Native.Nat.{_≤_}
-use mathlib.Core.Path.{_≡_, ap}
 use lib.ListN.{length, drop}
 use Rattle.moving.specs.Read.{decoded}
-use Rattle.string.specs.Strings.{same, ahead, Sound}
+use Rattle.string.specs.Strings.{same, ahead}
 use Rattle.string.proofs.Ahead.{ahead-falls}
 use Rattle.string.proofs.Turns.{name-ends, name-shorter, name-other, name-on, Against, against-whole}
-use denote.Ref.{now}
 use Rattle.string.proofs.name_is.Statement.{statement}
 use Rattle.string.proofs.name_is.Tie as tie
 
