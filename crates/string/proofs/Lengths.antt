@@ -1,7 +1,7 @@
 -- A decoded string is no longer than its text: an escape has more bytes than what it stands for.
-use Prim.Native.Nat.{ℕ, suc, _+_, _<_, _≤_}
-use mathlib.Core.Path.{_≡_, refl, ap}
-use mathlib.Core.List.{List, [], _∷_, _++_, tail}
+use Prim.Native.Nat.{ℕ, _+_, _≤_}
+use mathlib.Core.Path.{_≡_, refl}
+use mathlib.Core.List.{List, [], _∷_, tail}
 use mathlib.Core.Bool.{Bool, true, false, cond}
 use lib.ListN.{length, drop, length-append, length-drop}
 use lib.Dec.{eqb, ltb}

@@ -1,14 +1,10 @@
 use native.Mathlib.Omega.{arith}
 use borrow.Author.Needs.{needs}
-use mathlib.Core.Path.{_≡_, ap, refl}
 use lib.ListN.{length, drop}
 use Rattle.moving.specs.Read.{decoded}
 use Rattle.string.specs.Strings.{ahead}
 use Rattle.string.proofs.Ahead.{ahead-falls}
 use Rattle.string.proofs.Turns.{Lays, lay-behind, lay-ends, lay-room, lay-on, lays-none}
-use denote.Ref.{now}
-use lib.Seq.{sets}
-use Prim.Native.Nat.{_+_}
 use Rattle.string.proofs.copy.Statement.{statement}
 use Rattle.string.proofs.copy.Tie as tie
 

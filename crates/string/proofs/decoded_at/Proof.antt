@@ -1,6 +1,5 @@
 use native.Mathlib.Omega.{arith}
 use borrow.Author.Needs.{needs}
-use mathlib.Core.Path.{_≡_, ap}
 use lib.ListN.{length, drop, getD}
 use Rattle.moving.specs.Read.{decoded}
 use Rattle.string.specs.Strings.{ahead}

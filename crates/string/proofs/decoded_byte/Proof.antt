@@ -1,10 +1,9 @@
 use borrow.Author.Needs.{needs}
 use Prim.Native.Nat.{_-_, _<_}
-use mathlib.Core.Path.{_≡_, refl, sym, ap, _∙_}
+use mathlib.Core.Path.{_≡_, sym, _∙_}
 use lib.ListN.{length}
-use Rattle.string.proofs.Ahead.{rest, rest-goes, rest-closes, rest-refuses, rest-ends, all-given, one-given, ahead-over, gives-nothing, step-on, step-gives}
+use Rattle.string.proofs.Ahead.{rest, rest-closes, rest-refuses, rest-ends, ahead-over, gives-nothing, step-on, step-gives}
 use Rattle.string.specs.Strings.{ahead}
-use mathlib.Core.List.{_++_}
 use Rattle.string.proofs.decoded_byte.Statement.{statement}
 use Rattle.string.proofs.decoded_byte.Tie as tie
 

@@ -1,7 +1,5 @@
 use native.Mathlib.Omega.{arith}
 use borrow.Author.Needs.{needs}
-use mathlib.Core.Path.{_≡_, ap, _∙_}
-use borrow.Author.Tests.{le-leb, lt-leb}
 use Rattle.string.proofs.Turns.{no-room, room-for}
 use denote.Ref.{now}
 use lib.ListN.{drop}

@@ -1,5 +1,4 @@
 use borrow.Author.Needs.{needs}
-use mathlib.Core.Path.{_≡_, ap, _∙_}
 use lib.ListN.{length, drop}
 use Rattle.moving.specs.Read.{decoded}
 use Rattle.string.specs.Strings.{same, ahead}
