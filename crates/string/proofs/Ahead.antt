@@ -97,7 +97,7 @@ module _ (text : List ℕ) (c : Cursor) where
   unfolding ahead
   gives-decoded s h four = record {
     bytes = rw (one-given (c .out .bytes) (c .out .n) (c .given) h (omega (arith, s .few)));
-    sound = record { few = s .few; small = s .small }
+    sound = record { few = s .few; small = s .small };
   }
 
   pub gives-nothing : (r : NextByte) → Sound c → ahead text c ≡ [] → (r .some ≡ false) × (r .cursor ≡ c) → Gives text c r
@@ -117,7 +117,7 @@ module _ (text : List ℕ) (c : Cursor) where
     unfolding ahead
     step-gives small few four pos = record {
       bytes = step ∙ ap (λ l. l ++ rest text n w (i + 1)) (one-given (o .bytes) (o .n) 0 pos (omega arith));
-      sound = record { few = few; small = small }
+      sound = record { few = few; small = small };
     }
 
 -- ---- what `next_byte` gives

@@ -45,5 +45,5 @@ alike-one {text} {name} {at} {i} a h l e p =
     record {
       ahead = omega arith;
       inside = omega arith;
-      answer = rw z (sym (name-goes name (i - at) (getD text i 0) (plainFrom text (i + 1)) l e) ∙ rw (ascii-from text i h p) at (a .answer))
+      answer = rw z (sym (name-goes name (i - at) (getD text i 0) (plainFrom text (i + 1)) l e) ∙ rw (ascii-from text i h p) at (a .answer));
     }

@@ -129,7 +129,7 @@ module _ {text before : List ℕ} {to : ℕ} {bytes buffer : List ℕ} {c : Curs
       sound = g .sound;
       room = omega (arith, l .room, ap length (gives-one g e));
       sized = length-set buffer i (r .byte) ∙ l .sized;
-      answer = rw add-one (rw (gives-one g e) at (l .answer))
+      answer = rw add-one (rw (gives-one g e) at (l .answer));
     }
 
 module _ (buffer : List ℕ) (to : ℕ) (bytes : List ℕ) where

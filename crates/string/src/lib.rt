@@ -1,6 +1,9 @@
 // Strings of a walked text, decoded as they are looked at: names compared, bytes counted and laid into a lent buffer. No copy is made to compare.
 use json::string;
-use json::string::{CharStep, InString, Lead, Letter};
+use json::string::CharStep;
+use json::string::InString;
+use json::string::Lead;
+use json::string::Letter;
 ghost use mathlib.Core.Path.{_≡_};
 ghost use mathlib.Core.List.{List, [], _∷_};
 ghost use mathlib.Core.Bool.{false};
@@ -107,13 +110,19 @@ fn gathered(state: InString, v: u64, b: u8) -> u64
 fn no_byte() -> Out
     ensures { λ r. ⌜ (bytesOf r ≡ []) × (r .n ≤ 4) ⌝ }
 {
-    Out { n: 0, bytes: [0, 0, 0, 0] }
+    Out {
+        n: 0,
+        bytes: [0, 0, 0, 0],
+    }
 }
 
 fn one_byte(b: u8) -> Out
     ensures { λ r. ⌜ (bytesOf r ≡ b ∷ []) × (r .n ≤ 4) ⌝ }
 {
-    Out { n: 1, bytes: [b, 0, 0, 0] }
+    Out {
+        n: 1,
+        bytes: [b, 0, 0, 0],
+    }
 }
 
 // The bytes of a code point.
@@ -121,17 +130,34 @@ fn utf8_of(c: u64) -> Out
     ensures { λ r. ⌜ (bytesOf r ≡ utf8 c) × (r .n ≤ 4) ⌝ }
 {
     if c < 0x80 {
-        return Out { n: 1, bytes: [c as u8, 0, 0, 0] };
+        return Out {
+            n: 1,
+            bytes: [c as u8, 0, 0, 0],
+        };
     }
     let last = (0x80 + c % 64) as u8;
     if c < 0x800 {
-        return Out { n: 2, bytes: [(0xC0 + c / 64) as u8, last, 0, 0] };
+        return Out {
+            n: 2,
+            bytes: [(0xC0 + c / 64) as u8, last, 0, 0],
+        };
     }
     let third = (0x80 + c / 64 % 64) as u8;
     if c < 0x10000 {
-        return Out { n: 3, bytes: [(0xE0 + c / 4096) as u8, third, last, 0] };
+        return Out {
+            n: 3,
+            bytes: [(0xE0 + c / 4096) as u8, third, last, 0],
+        };
     }
-    Out { n: 4, bytes: [(0xF0 + c / 262144 % 8) as u8, (0x80 + c / 4096 % 64) as u8, third, last] }
+    Out {
+        n: 4,
+        bytes: [
+            (0xF0 + c / 262144 % 8) as u8,
+            (0x80 + c / 4096 % 64) as u8,
+            third,
+            last,
+        ],
+    }
 }
 
 // The code point of the digits gathered, four of one or eight of a pair.
@@ -203,7 +229,13 @@ fn behind(text: &[u8], quote: usize) -> usize
 fn plain_at(at: usize) -> Cursor
     ensures { λ r. ⌜ ((text : List ℕ) → ahead text r ≡ plainFrom text at) × Sound r ⌝ }
 {
-    Cursor { at: at, state: InString::Plain, v: 0, out: no_byte(), given: 0 }
+    Cursor {
+        at: at,
+        state: InString::Plain,
+        v: 0,
+        out: no_byte(),
+        given: 0,
+    }
 }
 
 // The cursor behind the opening quote at `quote`.
@@ -216,7 +248,11 @@ pub fn start(text: &[u8], quote: usize) -> Cursor
 fn nothing(c: Cursor) -> NextByte
     ensures { λ r. ⌜ (r .some ≡ false) × (r .cursor ≡ c) ⌝ }
 {
-    NextByte { some: false, byte: 0, cursor: c }
+    NextByte {
+        some: false,
+        byte: 0,
+        cursor: c,
+    }
 }
 
 // The next decoded byte of the string, from behind what was decoded at the last step.
@@ -236,7 +272,17 @@ fn decoded_byte(text: &[u8], c: Cursor) -> NextByte
                 state = next;
                 at += 1;
                 if 0 < out.n {
-                    return NextByte { some: true, byte: out.bytes[0], cursor: Cursor { at: at, state: state, v: v, out: out, given: 1 } };
+                    return NextByte {
+                        some: true,
+                        byte: out.bytes[0],
+                        cursor: Cursor {
+                            at: at,
+                            state: state,
+                            v: v,
+                            out: out,
+                            given: 1,
+                        },
+                    };
                 }
             }
             CharStep::Closes => return nothing(c),
@@ -260,7 +306,17 @@ pub fn next_byte(text: &[u8], c: Cursor) -> NextByte
     let bytes = out.bytes;
     let b = bytes[given];
     let state = c.state;
-    NextByte { some: true, byte: b, cursor: Cursor { at: c.at, state: state, v: c.v, out: out, given: given + 1 } }
+    NextByte {
+        some: true,
+        byte: b,
+        cursor: Cursor {
+            at: c.at,
+            state: state,
+            v: c.v,
+            out: out,
+            given: given + 1,
+        },
+    }
 }
 
 // The first place from `at` on where no plain ASCII character stands that `name` has there too: most names are nothing else.

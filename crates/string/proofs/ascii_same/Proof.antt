@@ -1,3 +1,4 @@
+-- Plain ASCII characters that both begin with are passed over. The measure is what is left of the text.
 use borrow.Author.Needs.{needs}
 use Prim.Native.Nat.{_-_}
 use lib.ListN.{length}

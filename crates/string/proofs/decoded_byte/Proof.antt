@@ -1,3 +1,4 @@
+-- Each byte of the text gives what the machine says, or nothing yet: the rest of the string is what the cursor has ahead. The measure is what is left of the text.
 use borrow.Author.Needs.{needs}
 use Prim.Native.Nat.{_-_, _<_}
 use mathlib.Core.Path.{_≡_, sym, _∙_}
@@ -43,7 +44,7 @@ returns c =
     let g = c .before .before .before in
     let four : length (g .char-gives .result .bytes) ≡ 4 = search needs in
     step-gives _ _ _ _ _ _ _ (g .char-gives .result) (l .before .loop .inv .1) (l .loop-test .taken) (cc) (g .char-gives .ensures .0) (c .before .before .gathered .ensures .0)
-        (c .before .before .gathered .ensures .1) (g .char-gives .ensures .1) four (c .before .if1 .taken)
+    (c .before .before .gathered .ensures .1) (g .char-gives .ensures .1) four (c .before .if1 .taken)
 
 loop-less : tie.Need-loop-less Inv-loop μ-loop
 loop-less c = search needs

@@ -1,3 +1,4 @@
+-- The bytes ahead are compared with the rest of the name, behind the plain ASCII characters with which both begin. The measure is what is ahead.
 use native.Mathlib.Omega.{arith}
 use borrow.Author.Needs.{needs}
 use lib.ListN.{length, drop}
