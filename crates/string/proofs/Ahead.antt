@@ -10,7 +10,7 @@ use native.Mathlib.Omega.{arith}
 use borrow.Author.Tests.{not-true, not-false}
 use Rattle.json.specs.String.{chars, after, given, gather}
 use Rattle.moving.specs.Read.{decoded}
-use Rattle.string.specs.Strings.{bytesOf, ahead, Sound, Gives}
+use Rattle.string.specs.Strings.{bytesOf, plainFrom, ahead, Sound, Gives}
 use Rattle.string.specs.declared.Out.{Out}
 use Rattle.string.specs.declared.Cursor.{Cursor}
 use Rattle.string.specs.declared.NextByte.{NextByte}
@@ -66,26 +66,24 @@ module _ (bytes : List ℕ) (n k : ℕ) where
 
 -- ---- behind the opening quote
 module _ (text : List ℕ) (q : ℕ) where
-  pub tail-inside : q < length text → tail (drop q text) ≡ drop (q + 1) text
+  tail-inside : q < length text → tail (drop q text) ≡ drop (q + 1) text
   tail-inside h = rw (drop-cons text q 0 h, add-one)
 
-  pub tail-outside : length text ≤ q → tail (drop q text) ≡ drop q text
+  tail-outside : length text ≤ q → tail (drop q text) ≡ drop q text
   tail-outside h = rw (drop-of-length-le text h)
 
+  pub behind-inside : q < length text → plainFrom text (q + 1) ≡ decoded (drop q text)
+  unfolding decoded
+  behind-inside h = ap (from text Plain 0 q) (sym (tail-inside h))
+
+  pub behind-outside : length text ≤ q → plainFrom text q ≡ decoded (drop q text)
+  unfolding decoded
+  behind-outside h = ap (from text Plain 0 q) (sym (tail-outside h))
+
 -- ---- a cursor
-abbrev fresh : Out → ℕ → Cursor
-fresh o i = record { at = i; state = Plain; v = 0; out = o; given = 0 }
-
-module _ (text : List ℕ) (q : ℕ) (o : Out) (none : bytesOf o ≡ []) where
-  start-at : (i : ℕ) → tail (drop q text) ≡ drop i text → ahead text (fresh o i) ≡ decoded (drop q text)
-  unfolding ahead decoded
-  start-at i e = rw (none, ← e)
-
-  pub start-inside : (i : ℕ) → i ≡ q + 1 → q < length text → ahead text (fresh o i) ≡ decoded (drop q text)
-  start-inside i e h = start-at i (rw e (tail-inside text q h))
-
-  pub start-outside : (i : ℕ) → i ≡ q → length text ≤ q → ahead text (fresh o i) ≡ decoded (drop q text)
-  start-outside i e h = start-at i (rw e (tail-outside text q h))
+pub nothing-decoded : (o : Out) (i : ℕ) → bytesOf o ≡ [] → (text : List ℕ) → ahead text (record { at = i; state = Plain; v = 0; out = o; given = 0 }) ≡ plainFrom text i
+unfolding ahead
+nothing-decoded o i e text = rw e
 
 module _ (text : List ℕ) (c : Cursor) where
   -- all that the last step decoded is given out

@@ -3,3 +3,4 @@ mod Ahead
 mod Lengths
 mod Same
 mod Turns
+mod Ascii

@@ -9,7 +9,7 @@ use lib.Dec.{eqb}
 use native.Mathlib.Numerals.{add-one}
 use native.Mathlib.Omega.{arith}
 use borrow.Author.Tests.{le-leb, lt-leb}
-use Rattle.string.specs.Strings.{same, ahead, Sound, Gives, laid, buffered}
+use Rattle.string.specs.Strings.{same, plainFrom, ahead, Alike, Sound, Gives, laid, buffered}
 use Rattle.string.specs.declared.Cursor.{Cursor}
 use Rattle.string.specs.declared.NextByte.{NextByte}
 use Rattle.string.specs.declared.Laid.the-variants.{Behind, NoRoom}
@@ -22,8 +22,9 @@ pub record Against (text name : List ℕ) (T : Bool) (c : Cursor) (k : ℕ) : Ty
   pub inside : k ≤ length name
   pub answer : same (ahead text c) (drop k name) ≡ T
 
-pub against-whole : {text bytes : List ℕ} {c : Cursor} (name : List ℕ) → Sound c → ahead text c ≡ bytes → Against text name (same bytes name) c 0
-against-whole name s e = record { sound = s; inside = omega arith; answer = rw e }
+pub against-behind : {text name bytes : List ℕ} {at i : ℕ} {c : Cursor} → Alike text name at i → plainFrom text at ≡ bytes → ahead text c ≡ plainFrom text i → Sound c
+    → Against text name (same bytes name) c (i - at)
+against-behind a e f s = record { sound = s; inside = a .inside; answer = rw (f, ← e) (a .answer) }
 
 module _ {text name : List ℕ} {T : Bool} {c : Cursor} {k : ℕ} {r : NextByte} (g : Gives text c r) (i : Against text name T c k) where
   pub name-ends : not (r .some) ≡ true → eqb k (length name) ≡ T

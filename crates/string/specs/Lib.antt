@@ -1,1 +1,2 @@
 pub mod Strings
+mod Examples

@@ -1,5 +1,5 @@
 -- Strings of a walked text by their decoded bytes (`decoded` of Read.antt): compared, counted and laid into a buffer as the escapes are undone.
-use Prim.Native.Nat.{ℕ, _+_, _<_, _≤_}
+use Prim.Native.Nat.{ℕ, _+_, _-_, _<_, _≤_}
 use mathlib.Core.Path.{_≡_}
 use mathlib.Core.List.{List, [], _∷_, _++_}
 use mathlib.Core.Bool.{Bool, true, false, _&&_, cond}
@@ -7,6 +7,7 @@ use lib.ListN.{length, drop, take}
 use lib.Seq.{sets}
 use lib.Dec.{eqb, leb}
 use Rattle.json.specs.String.{chars}
+use Rattle.json.specs.declared.string.InString.the-variants.{Plain}
 use Rattle.string.specs.declared.Out.{Out}
 use Rattle.string.specs.declared.Cursor.{Cursor}
 use Rattle.string.specs.declared.NextByte.{NextByte}
@@ -24,6 +25,10 @@ same (x ∷ xs) (y ∷ ys) = eqb x y && same xs ys
 abbrev pub bytesOf : Out → List ℕ
 bytesOf o = take (o .n) (o .bytes)
 
+-- The decoded bytes of a string from a place on where a character or the closing quote may stand.
+abbrev pub plainFrom : List ℕ → ℕ → List ℕ
+plainFrom text at = (chars Plain 0 (drop at text)) .bytes
+
 -- What a cursor has still to give: the bytes that its last step decoded, and the rest of the string.
 unfoldable pub ahead : List ℕ → Cursor → List ℕ
 unfolding chars
@@ -37,6 +42,12 @@ pub record Sound (c : Cursor) : Type 0 where
 pub record Gives (text : List ℕ) (c : Cursor) (r : NextByte) : Type 0 where
   pub bytes : ahead text c ≡ cond (r .some) (r .byte ∷ ahead text (r .cursor)) []
   pub sound : Sound (r .cursor)
+
+-- From `at` up to `i` the text has the bytes with which the name begins: the name is to be compared from there.
+pub record Alike (text name : List ℕ) (at i : ℕ) : Type 0 where
+  pub ahead : at ≤ i
+  pub inside : i - at ≤ length name
+  pub answer : same (plainFrom text i) (drop (i - at) name) ≡ same (plainFrom text at) name
 
 -- Whether so many bytes have room in a buffer from `to` on.
 abbrev pub fits : List ℕ → ℕ → List ℕ → Bool

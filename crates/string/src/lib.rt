@@ -1,19 +1,20 @@
 // Strings of a walked text, decoded as they are looked at: names compared, bytes counted and laid into a lent buffer. No copy is made to compare.
 use json::string::CharStep;
 use json::string::InString;
+use json::string::Lead;
 use json::string::Letter;
 use scan::byte;
 use scan::string;
 ghost use mathlib.Core.Path.{_≡_};
-ghost use mathlib.Core.List.{[], _∷_};
+ghost use mathlib.Core.List.{List, [], _∷_};
 ghost use mathlib.Core.Bool.{false};
-ghost use Prim.Native.Nat.{_+_, _<_, _≤_};
+ghost use Prim.Native.Nat.{ℕ, _+_, _<_, _≤_};
 ghost use lib.ListN.{length, drop, getD};
 ghost use lib.Seq.{sets};
 ghost use Rattle.json.specs.Byte.{utf8};
 ghost use Rattle.json.specs.String.{oneMore, gather, point, meant, given as givenBy};
 ghost use Rattle.moving.specs.Read.{decoded};
-ghost use Rattle.string.specs.Strings.{same, bytesOf, ahead, Sound, Gives, laid, buffered};
+ghost use Rattle.string.specs.Strings.{same, bytesOf, plainFrom, ahead, Sound, Gives, Alike, laid, buffered};
 
 // Up to four bytes: the first n of the array.
 pub struct Out {
@@ -186,11 +187,17 @@ fn char_gives(state: InString, v: u64, b: u8) -> Out
     }
 }
 
-// The cursor behind the opening quote at `quote`.
-pub fn start(text: &[u8], quote: usize) -> Cursor
-    ensures { λ r. ⌜ (ahead (now (text .entry)) r ≡ decoded (drop quote (now (text .entry)))) × Sound r ⌝ }
+// The place behind the opening quote at `quote`.
+fn behind(text: &[u8], quote: usize) -> usize
+    ensures { λ r. ⌜ plainFrom (now (text .entry)) r ≡ decoded (drop quote (now (text .entry))) ⌝ }
 {
-    let at = if quote < text.len() { quote + 1 } else { quote };
+    if quote < text.len() { quote + 1 } else { quote }
+}
+
+// The cursor at a place where a character or the closing quote may stand.
+fn plain_at(at: usize) -> Cursor
+    ensures { λ r. ⌜ ((text : List ℕ) → ahead text r ≡ plainFrom text at) × Sound r ⌝ }
+{
     Cursor {
         at: at,
         state: InString::Plain,
@@ -198,6 +205,13 @@ pub fn start(text: &[u8], quote: usize) -> Cursor
         out: no_byte(),
         given: 0,
     }
+}
+
+// The cursor behind the opening quote at `quote`.
+pub fn start(text: &[u8], quote: usize) -> Cursor
+    ensures { λ r. ⌜ (ahead (now (text .entry)) r ≡ decoded (drop quote (now (text .entry)))) × Sound r ⌝ }
+{
+    plain_at(behind(text, quote))
 }
 
 fn nothing(c: Cursor) -> NextByte
@@ -274,12 +288,38 @@ pub fn next_byte(text: &[u8], c: Cursor) -> NextByte
     }
 }
 
+// The first place from `at` on where no plain ASCII character stands that `name` has there too: most names are nothing else.
+fn ascii_same(text: &[u8], at: usize, name: &[u8]) -> usize
+    ensures { λ r. ⌜ Alike (now (text .entry)) (now (name .entry)) at r ⌝ }
+{
+    let mut i = at;
+    while i < text.len() {
+        let k = i - at;
+        if name.len() <= k {
+            return i;
+        }
+        let b = text[i];
+        if b != name[k] {
+            return i;
+        }
+        match string::lead_of(b) {
+            Lead::Ascii => {
+                i += 1;
+            }
+            _ => return i,
+        }
+    }
+    i
+}
+
 // Whether the string whose quote stands at `quote` is `name`.
 pub fn name_is(text: &[u8], quote: usize, name: &[u8]) -> bool
     ensures { λ r. ⌜ r ≡ same (decoded (drop quote (now (text .entry)))) (now (name .entry)) ⌝ }
 {
-    let mut c = start(text, quote);
-    let mut k: usize = 0;
+    let at = behind(text, quote);
+    let i = ascii_same(text, at, name);
+    let mut c = plain_at(i);
+    let mut k = i - at;
     loop {
         let next = next_byte(text, c);
         if !next.some {

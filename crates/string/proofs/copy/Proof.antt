@@ -1,3 +1,4 @@
+-- Laying the bytes ahead into the buffer as it stands makes the buffer that is asked for. The measure is what is ahead.
 use native.Mathlib.Omega.{arith}
 use borrow.Author.Needs.{needs}
 use lib.ListN.{length, drop}

@@ -1,3 +1,4 @@
+-- The byte that is sought stands so many bytes ahead as are not yet passed. The measure is what is ahead.
 use native.Mathlib.Omega.{arith}
 use borrow.Author.Needs.{needs}
 use lib.ListN.{length, drop, getD}

@@ -1,3 +1,4 @@
+-- Each byte of the text gives what the machine says, or nothing yet: the rest of the string is what the cursor has ahead. The measure is what is left of the text.
 use borrow.Author.Needs.{needs}
 use Prim.Native.Nat.{_-_, _<_}
 use mathlib.Core.Path.{_≡_, sym, _∙_}

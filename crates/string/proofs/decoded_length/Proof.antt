@@ -1,3 +1,4 @@
+-- The bytes passed and the bytes ahead are the decoded string, which is no longer than the text. The measure is what is ahead.
 use native.Mathlib.Omega.{arith}
 use borrow.Author.Needs.{needs}
 use lib.ListN.{length, drop}

@@ -1,3 +1,4 @@
+-- The decoded bytes have room, and are laid, or the buffer is left as it was.
 use native.Mathlib.Omega.{arith}
 use borrow.Author.Needs.{needs}
 use Rattle.string.proofs.Turns.{no-room, room-for}

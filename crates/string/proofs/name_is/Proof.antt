@@ -1,23 +1,34 @@
+-- The bytes ahead are compared with the rest of the name, behind the plain ASCII characters with which both begin. The measure is what is ahead.
+use native.Mathlib.Omega.{arith}
 use borrow.Author.Needs.{needs}
 use lib.ListN.{length, drop}
 use Rattle.moving.specs.Read.{decoded}
 use Rattle.string.specs.Strings.{same, ahead}
 use Rattle.string.proofs.Ahead.{ahead-falls}
-use Rattle.string.proofs.Turns.{name-ends, name-shorter, name-other, name-on, Against, against-whole}
+use Rattle.string.proofs.Turns.{Against, against-behind, name-ends, name-shorter, name-other, name-on}
 use Rattle.string.proofs.name_is.Statement.{statement}
 use Rattle.string.proofs.name_is.Tie as tie
 
 abbrev Inv-loop : tie.InvT-loop
-Inv-loop text quote name c₀ k₀ c k = Against text name (same (decoded (drop quote text)) name) c k
+Inv-loop text quote name at i c₀ k₀ c k = Against text name (same (decoded (drop quote text)) name) c k
 
 abbrev μ-loop : tie.MeasureT-loop
-μ-loop text quote name c₀ k₀ c k = length (ahead text c)
+μ-loop text quote name at i c₀ k₀ c k = length (ahead text c)
 
-start-requires : tie.Need-start-requires Inv-loop μ-loop
-start-requires c κs = search needs
+behind-requires : tie.Need-behind-requires Inv-loop μ-loop
+behind-requires c κs = search needs
+
+ascii-same-requires : tie.Need-ascii-same-requires Inv-loop μ-loop
+ascii-same-requires c κs = search needs
+
+plain-at-requires : tie.Need-plain-at-requires Inv-loop μ-loop
+plain-at-requires c κs = search needs
+
+sub-k : tie.Need-sub-k Inv-loop μ-loop
+sub-k c = search needs
 
 loop-holds : tie.Need-loop-holds Inv-loop μ-loop
-loop-holds c = against-whole _ (c .start .ensures .1) (c .start .ensures .0)
+loop-holds c = against-behind (c .before .ascii-same .ensures) (c .before .before .behind .ensures) (c .plain-at .ensures .0 _) (c .plain-at .ensures .1)
 
 next-byte-requires : tie.Need-next-byte-requires Inv-loop μ-loop
 next-byte-requires c κs = c .loop .inv .sound
@@ -42,7 +53,10 @@ returns-3 c =
     name-other (n .next-byte .ensures) (n .before .loop .inv) (t .before .if1 .left) (t .if2 .left) (c .if3 .taken)
 
 add-k : tie.Need-add-k Inv-loop μ-loop
-add-k c = search needs
+add-k c =
+    let t = c .before .before .before .before in
+    let s = t .before .before .before .before .before .before .before .before .before .before in
+    omega (arith, t .if2 .left, s .good .1 .1 .0 .0)
 
 loop-less : tie.Need-loop-less Inv-loop μ-loop
 loop-less c =
@@ -61,7 +75,10 @@ name-is-spec =
     (tie.spec
     Inv-loop
     μ-loop
-    start-requires
+    behind-requires
+    ascii-same-requires
+    plain-at-requires
+    sub-k
     loop-holds
     next-byte-requires
     returns

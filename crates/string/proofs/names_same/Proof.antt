@@ -1,3 +1,4 @@
+-- The bytes ahead of both cursors are compared. The measure is what is ahead of the first.
 use borrow.Author.Needs.{needs}
 use lib.ListN.{length, drop}
 use Rattle.moving.specs.Read.{decoded}

@@ -1,3 +1,4 @@
+-- A byte that the last step decoded is given out, or the next step is taken.
 use borrow.Author.Needs.{needs}
 use mathlib.Core.Path.{_≡_}
 use lib.ListN.{length}

@@ -1,22 +1,16 @@
-use native.Mathlib.Omega.{arith}
 use borrow.Author.Needs.{needs}
-use mathlib.Core.Logic.{⊎-elim}
-use Rattle.string.proofs.Ahead.{start-inside, start-outside}
+use mathlib.Core.Path.{_∙_}
 use Rattle.string.proofs.start.Statement.{statement}
 use Rattle.string.proofs.start.Tie as tie
 
-add-at : tie.Need-add-at
-add-at c = search needs
+behind-requires : tie.Need-behind-requires
+behind-requires c κs = search needs
 
-no-byte-requires : tie.Need-no-byte-requires
-no-byte-requires c κs = search needs
+plain-at-requires : tie.Need-plain-at-requires
+plain-at-requires c κs = search needs
 
 returns : tie.Need-returns
-returns c =
-    let t = c .before .before .before in (
-      ⊎-elim (λ w. start-inside _ _ _ (c .no-byte .ensures .0) _ (w .1) (w .0 .taken)) (λ w. start-outside _ _ _ (c .no-byte .ensures .0) _ (w .1) (w .0 .left)) (c .before .if1 .came),
-      record { few = c .no-byte .ensures .1; small = omega arith },
-    )
+returns c = (c .plain-at .ensures .0 _ ∙ c .before .behind .ensures, c .plain-at .ensures .1)
 
 pub start-spec : {M : Type 1} → statement M
-start-spec = tie.close (tie.spec add-at no-byte-requires returns)
+start-spec = tie.close (tie.spec behind-requires plain-at-requires returns)
