@@ -1,0 +1,5 @@
+pub mod Begins
+pub mod Depth
+pub mod Leading
+pub mod Open
+pub mod Utf8

@@ -1,0 +1,28 @@
+-- Strings of a text and what they decode to, by computation.
+use Prim.Native.Nat.{ℕ}
+use Prim.Native.Char.{code}
+use Prim.Native.String.{String, [] as empty, _∷_ as first}
+use mathlib.Core.Path.{_≡_, refl}
+use mathlib.Core.List.{List, [], _∷_, _++_}
+use mathlib.Core.Bool.{true, false}
+use Rattle.json.specs.Byte.{utf8}
+use Rattle.moving.specs.Read.{decoded}
+use Rattle.strings.specs.Strings.{same}
+
+-- A text's bytes in UTF-8.
+abbrev text : String → List ℕ
+unfolding utf8
+text empty = []
+text (first c s) = utf8 (code c) ++ text s
+
+examples :
+    (decoded (text "\"\\u0074\":1") ≡ text "t")
+    × (decoded (text "\"\\uD83D\\ude00\"") ≡ decoded (text "\"😀\""))
+    × (decoded (text "\"😀\"") ≡ 0xF0 ∷ 0x9F ∷ 0x98 ∷ 0x80 ∷ [])
+    × (decoded (text "\"\\u0000\"") ≡ 0 ∷ [])
+    × (decoded (text "\"\\/\"") ≡ text "/")
+    × (decoded (text "\"a\\\\\\\"\\n\\u00E9€z\"b") ≡ text "a\\\"\né€z")
+    × (same (decoded (text "\"c\\u0079\\u0044u\"")) (text "cyDu") ≡ true)
+    × (same (decoded (text "\"cyDu\"")) (text "cyDuU") ≡ false)
+unfolding decoded text same
+examples = (refl, refl, refl, refl, refl, refl, refl, refl)
