@@ -6,6 +6,7 @@ use lib.ListN.{length, getD, drop, drop-of-length-le}
 use lib.Seq.{drop-cons, drop-length}
 use native.Mathlib.Numerals.{add-one}
 use native.Mathlib.Omega.{arith}
+use Rattle.json.specs.Part.{Skips}
 
 -- At `i` the code asks f of the rest, as at `at` it was asked g.
 pub record Passes {A : Type 0} (f g : List ℕ → A) (text : List ℕ) (at i : ℕ) : Type 0 where
@@ -37,3 +38,10 @@ module _ {A : Type 0} {f g : List ℕ → A} {text : List ℕ} {at i : ℕ} (p :
   -- the answer is of the text's end
   pub answers-end : (k : List ℕ → A) → length text ≤ i → f [] ≡ k [] → g (drop at text) ≡ k (drop (length text) text)
   answers-end k h e = sym (p .same) ∙ ap f (drop-of-length-le text h) ∙ e ∙ ap k (sym (drop-length text))
+
+-- ---- what is skipped
+pub skips : {A : Type 0} {f : List ℕ → A} {text : List ℕ} {at i : ℕ} → Passes f f text at i → Skips f text at i
+skips p = record { same = p .same; ahead = p .ahead; inside = p .inside }
+
+pub skipped : {A : Type 0} {f g : List ℕ → A} {text : List ℕ} {at i r : ℕ} → Passes f g text at i → Skips f text i r → Passes f g text at r
+skipped p k = record { same = k .same ∙ p .same; ahead = omega (arith, p .ahead, k .ahead); inside = λ h. k .inside (p .inside h) }

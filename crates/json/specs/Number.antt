@@ -40,3 +40,15 @@ mayEnd Fraction = true
 mayEnd Mark = false
 mayEnd Sign = false
 mayEnd Power = true
+
+-- Whether a digit leads back to the same part.
+abbrev pub takesDigits : InNumber → Bool
+takesDigits Start = false
+takesDigits Minus = false
+takesDigits Zero = false
+takesDigits Whole = true
+takesDigits Point = false
+takesDigits Fraction = true
+takesDigits Mark = false
+takesDigits Sign = false
+takesDigits Power = true

@@ -20,16 +20,16 @@ pub data Stop : Type 0 where
   past : Place → Stop
   torn : Place → Stop
 
+-- From `at` the code skips to `r`, of which f says the same.
+pub record Skips {A : Type 0} (f : Place → A) (text : List ℕ) (at r : ℕ) : Type 0 where
+  pub same : f (drop r text) ≡ f (drop at text)
+  pub ahead : at ≤ r
+  pub inside : at ≤ length text → r ≤ length text
+
 unfoldable pub stringStop : InString → List ℕ → Stop
 unfolding after
 stringStop c [] = torn []
 stringStop c (b ∷ s) = elim (after c b) [ Goes n ↦ stringStop n s | Closes ↦ past s | Refuses ↦ torn (b ∷ s) ]
-
--- From `at` the code skips to `r`, with which the string is no other.
-pub record Skips (c : InString) (text : List ℕ) (at r : ℕ) : Type 0 where
-  pub same : stringStop c (drop r text) ≡ stringStop c (drop at text)
-  pub ahead : at ≤ r
-  pub inside : at ≤ length text → r ≤ length text
 
 abbrev pub ifMayEnd : InNumber → Place → Stop
 ifMayEnd n p = cond (mayEnd n) (past p) (torn p)

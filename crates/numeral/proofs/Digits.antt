@@ -1,11 +1,13 @@
 -- Numbers: what one byte does.
-use Prim.Native.Nat.{ℕ}
-use mathlib.Core.Path.{_≡_}
+use Prim.Native.Nat.{ℕ, _<_, _≤_}
+use mathlib.Core.Path.{_≡_, sym}
 use mathlib.Core.List.{List, [], _∷_}
-use mathlib.Core.Bool.{Bool, cond}
-use Rattle.json.specs.Number.{onward, mayEnd}
+use mathlib.Core.Bool.{Bool, true, cond}
+use Rattle.json.specs.Number.{onward, mayEnd, takesDigits}
 use Rattle.json.specs.Part.{past, torn, numberStop}
 use Rattle.json.specs.declared.number.InNumber.{InNumber}
+use Rattle.json.specs.declared.number.InNumber.the-variants.{Start, Minus, Zero, Whole, Point, Fraction, Mark, Sign, Power}
+use Rattle.json.proofs.Rows.{between}
 use Rattle.json.specs.declared.number.DigitStep.the-variants.{Onward, Over}
 
 module _ (n : InNumber) (b : ℕ) where
@@ -20,3 +22,19 @@ module _ (n : InNumber) (b : ℕ) where
 pub number-none : (n : InNumber) (t : Bool) → mayEnd n ≡ t → numberStop n [] ≡ cond t (past []) (torn [])
 unfolding numberStop
 number-none n t g = rw g
+
+-- a digit where digits stand
+stays : (n : InNumber) (b : ℕ) → takesDigits n ≡ true → 48 ≤ b → b < 58 → Onward n ≡ onward n b
+unfolding onward
+stays Whole b e l h = search (between 48 58)
+stays Fraction b e l h = search (between 48 58)
+stays Power b e l h = search (between 48 58)
+stays Start b e l h = cc
+stays Minus b e l h = cc
+stays Zero b e l h = cc
+stays Point b e l h = cc
+stays Mark b e l h = cc
+stays Sign b e l h = cc
+
+pub digit-goes : (n : InNumber) (b : ℕ) → takesDigits n ≡ true → 48 ≤ b → b < 58 → (s : List ℕ) → numberStop n (b ∷ s) ≡ numberStop n s
+digit-goes n b e l h = number-goes n b (sym (stays n b e l h))

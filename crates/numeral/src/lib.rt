@@ -3,11 +3,13 @@ use json::number::DigitStep;
 use json::number::InNumber;
 use json::part::Part;
 ghost use mathlib.Core.Path.{_≡_};
+ghost use mathlib.Core.Bool.{true};
 ghost use Prim.Native.Nat.{suc};
 ghost use lib.ListN.{drop};
-ghost use Rattle.json.specs.Number.{firstDigit, digitTo, marks, onward, mayEnd};
+ghost use Rattle.json.specs.Number.{firstDigit, digitTo, marks, onward, mayEnd, takesDigits};
 ghost use Rattle.json.specs.Rows.{look};
-ghost use Rattle.json.specs.Part.{numberStop, Stops};
+ghost use Rattle.json.specs.Part.{numberStop, Skips, Stops};
+ghost use Rattle.json.specs.declared.number.InNumber.{InNumber as Of};
 ghost use Rattle.json.specs.declared.number.InNumber.the-variants.{Start};
 
 fn first_digit(b: u8) -> DigitStep
@@ -161,6 +163,49 @@ fn may_end(part: InNumber) -> bool
     }
 }
 
+fn takes_digits(part: InNumber) -> bool
+    ensures { λ r. ⌜ r ≡ takesDigits part ⌝ }
+{
+    match part {
+        InNumber::Start => false,
+        InNumber::Minus => false,
+        InNumber::Zero => false,
+        InNumber::Whole => true,
+        InNumber::Point => false,
+        InNumber::Fraction => true,
+        InNumber::Mark => false,
+        InNumber::Sign => false,
+        InNumber::Power => true,
+    }
+}
+
+// The first place from `at` on whose byte is no digit: most numbers are little else.
+fn digits_end(text: &[u8], at: usize) -> usize
+    ensures { λ r. ⌜ ((n : Of) → takesDigits n ≡ true → Skips (numberStop n) (now (text .entry)) at r) ⌝ }
+{
+    let mut i = at;
+    while i < text.len() {
+        let b = text[i];
+        if b < 48 {
+            return i;
+        }
+        if 58 <= b {
+            return i;
+        }
+        i += 1;
+    }
+    i
+}
+
+fn digits_skipped(text: &[u8], part: InNumber, at: usize) -> usize
+    ensures { λ r. ⌜ Skips (numberStop part) (now (text .entry)) at r ⌝ }
+{
+    if takes_digits(part) {
+        return digits_end(text, at);
+    }
+    at
+}
+
 // The place behind the number at `at`.
 pub fn number_end(text: &[u8], at: usize) -> Part
     ensures { λ r. ⌜ Stops (now (text .entry)) (suc at) (numberStop Start (drop at (now (text .entry)))) r ⌝ }
@@ -171,7 +216,7 @@ pub fn number_end(text: &[u8], at: usize) -> Part
         match digit_after(part, text[i]) {
             DigitStep::Onward(next) => {
                 part = next;
-                i += 1;
+                i = digits_skipped(text, next, i + 1);
             }
             DigitStep::Over => {
                 if may_end(part) {

@@ -1,19 +1,17 @@
 -- Strings: what one byte does.
 use Prim.Native.Nat.{ℕ}
-use mathlib.Core.Path.{_≡_, refl, _∙_}
+use mathlib.Core.Path.{_≡_, refl}
 use mathlib.Core.List.{List, [], _∷_}
 use mathlib.Core.Bool.{Bool, true, false, cond, false≢true}
 use lib.Dec.{ltb}
-use native.Mathlib.Omega.{arith}
 use Rattle.json.specs.Rows.{look}
 use Rattle.json.specs.String.{after, lead, isAscii}
-use Rattle.json.specs.Part.{past, torn, Stop, stringStop, Skips}
+use Rattle.json.specs.Part.{past, torn, stringStop}
 use Rattle.json.specs.declared.string.Lead.{Lead}
 use Rattle.json.specs.declared.string.Lead.the-variants.{Control, Ascii, Quote, Backslash}
 use Rattle.json.specs.declared.string.InString.{InString}
 use Rattle.json.specs.declared.string.InString.the-variants.{Plain}
 use Rattle.json.specs.declared.string.CharStep.the-variants.{Goes, Closes, Refuses}
-use Rattle.json.proofs.Passes.{Passes}
 
 module _ (c : InString) (b : ℕ) where
   pub string-goes : {n : InString} → after c b ≡ Goes n → (s : List ℕ) → stringStop c (b ∷ s) ≡ stringStop n s
@@ -31,12 +29,6 @@ module _ (c : InString) (b : ℕ) where
 pub string-none : (c : InString) → stringStop c [] ≡ torn []
 unfolding stringStop
 string-none c = refl
-
-pub skips : {c : InString} {text : List ℕ} {at i : ℕ} → Passes (stringStop c) (stringStop c) text at i → Skips c text at i
-skips p = record { same = p .same; ahead = p .ahead; inside = p .inside }
-
-pub skipped : {c : InString} {g : List ℕ → Stop} {text : List ℕ} {at i r : ℕ} → Passes (stringStop c) g text at i → Skips c text i r → Passes (stringStop c) g text at r
-skipped p k = record { same = k .same ∙ p .same; ahead = omega (arith, p .ahead, k .ahead); inside = λ h. k .inside (p .inside h) }
 
 -- a byte that is plain ASCII is a character
 ascii-lead : (a b c d e f : Bool) (rest : Lead) → cond a false (cond b true (cond c false (cond d true (cond e false (cond f true false))))) ≡ true

@@ -220,7 +220,7 @@ pub fn char_after(state: InString, b: u8) -> CharStep
 
 // The first place from `at` on whose byte is no plain ASCII character: most strings are nothing else.
 fn ascii_end(text: &[u8], at: usize) -> usize
-    ensures { λ r. ⌜ Skips Plain (now (text .entry)) at r ⌝ }
+    ensures { λ r. ⌜ Skips (stringStop Plain) (now (text .entry)) at r ⌝ }
 {
     let mut i = at;
     while i < text.len() {
@@ -258,7 +258,7 @@ pub fn is_ascii(b: u8) -> bool
 }
 
 fn ascii_skipped(text: &[u8], state: InString, at: usize) -> usize
-    ensures { λ r. ⌜ Skips state (now (text .entry)) at r ⌝ }
+    ensures { λ r. ⌜ Skips (stringStop state) (now (text .entry)) at r ⌝ }
 {
     match state {
         InString::Plain => ascii_end(text, at),

@@ -8,7 +8,7 @@ use lib.ListN.{length}
 use Rattle.json.specs.Number.{mayEnd}
 use Rattle.json.specs.Part.{past, torn, numberStop}
 use Rattle.json.specs.declared.number.InNumber.the-variants.{Start}
-use Rattle.json.proofs.Passes.{Passes, passes-none, passes-one, answers-here, answers-end}
+use Rattle.json.proofs.Passes.{Passes, passes-none, passes-one, answers-here, answers-end, skipped}
 use Rattle.numeral.proofs.Digits.{number-goes, number-ends, number-none}
 use Rattle.numeral.proofs.number_end.Statement.{statement}
 use Rattle.numeral.proofs.number_end.Tie as tie
@@ -31,16 +31,19 @@ digit-after-requires c κs = search needs
 enum-known-next : tie.Need-enum-known-next Inv-loop μ-loop
 enum-known-next c = search needs
 
-add-i : tie.Need-add-i Inv-loop μ-loop
-add-i c = search needs
+add-digits-skipped : tie.Need-add-digits-skipped Inv-loop μ-loop
+add-digits-skipped c = search needs
+
+digits-skipped-requires : tie.Need-digits-skipped-requires Inv-loop μ-loop
+digits-skipped-requires c κs = search needs
 
 loop-less : tie.Need-loop-less Inv-loop μ-loop
 loop-less c = search needs
 
 loop-again : tie.Need-loop-again Inv-loop μ-loop
 loop-again c =
-    let l = c .before .before .before .before .before in
-    (passes-one (l .before .loop .inv .0) (l .loop-test .taken) (number-goes _ _ (cc)), λ e. (omega arith, omega arith))
+    let l = c .before .before .before .before .before .before in
+    (skipped (passes-one (l .before .loop .inv .0) (l .loop-test .taken) (number-goes _ _ (cc))) (c .digits-skipped .ensures), λ e. (omega arith, omega arith))
 
 enum-told : tie.Need-enum-told Inv-loop μ-loop
 enum-told c = search needs
@@ -81,7 +84,8 @@ number-end-spec =
     shared-slice-read-digit-after
     digit-after-requires
     enum-known-next
-    add-i
+    add-digits-skipped
+    digits-skipped-requires
     loop-less
     loop-again
     enum-told

@@ -4,8 +4,8 @@ use Prim.Native.Nat.{_-_}
 use lib.ListN.{length}
 use Rattle.json.specs.Part.{stringStop}
 use Rattle.json.specs.declared.string.InString.the-variants.{Plain}
-use Rattle.json.proofs.Passes.{Passes, passes-none, passes-one}
-use Rattle.scan.proofs.Strings.{ascii-goes, skips}
+use Rattle.json.proofs.Passes.{Passes, passes-none, passes-one, skips}
+use Rattle.scan.proofs.Strings.{ascii-goes}
 use Rattle.scan.proofs.string.ascii_end.Statement.{statement}
 use Rattle.scan.proofs.string.ascii_end.Tie as tie
 

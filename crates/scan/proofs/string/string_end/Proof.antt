@@ -6,8 +6,8 @@ use native.Mathlib.Omega.{arith}
 use lib.ListN.{length}
 use Rattle.json.specs.Part.{past, torn, stringStop}
 use Rattle.json.specs.declared.string.InString.the-variants.{Plain}
-use Rattle.json.proofs.Passes.{Passes, passes-none, passes-one, answers-here, answers-end}
-use Rattle.scan.proofs.Strings.{string-goes, string-closes, string-refuses, string-none, skipped}
+use Rattle.json.proofs.Passes.{Passes, passes-none, passes-one, answers-here, answers-end, skipped}
+use Rattle.scan.proofs.Strings.{string-goes, string-closes, string-refuses, string-none}
 use Rattle.scan.proofs.string.string_end.Statement.{statement}
 use Rattle.scan.proofs.string.string_end.Tie as tie
 
