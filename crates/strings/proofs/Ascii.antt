@@ -31,7 +31,7 @@ module _ (b : ℕ) (e : lead b ≡ Ascii) where
   unfolding gather
   ascii-gathers = refl
 
-ascii-from : (text : List ℕ) (i : ℕ) → i < length text → lead (getD text i 0) ≡ Ascii → plainFrom text i ≡ getD text i 0 ∷ plainFrom text (i + 1)
+pub ascii-from : (text : List ℕ) (i : ℕ) → i < length text → lead (getD text i 0) ≡ Ascii → plainFrom text i ≡ getD text i 0 ∷ plainFrom text (i + 1)
 ascii-from text i h e = rw (ascii-gives (getD text i 0) e, ascii-gathers (getD text i 0) e) at (rest-goes text Plain 0 i h (ascii-goes (getD text i 0) e))
 
 pub alike-none : (text name : List ℕ) (at : ℕ) → Alike text name at at

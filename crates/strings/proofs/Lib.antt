@@ -1,6 +1,6 @@
 -- What the proofs of several functions use.
-mod Ahead
-mod Lengths
-mod Same
-mod Turns
-mod Ascii
+pub mod Ahead
+pub mod Lengths
+pub mod Same
+pub mod Turns
+pub mod Ascii

@@ -1,0 +1,42 @@
+-- Demand 2: what is accepted is what spells a valid posology; what is written reads back.
+use mathlib.Core.Path.{_≡_}
+use mathlib.Core.List.{List, _++_}
+use mathlib.Core.Bool.{Bool, true, false}
+use mathlib.Core.Logic.{_↔_}
+use Prim.Native.Nat.{ℕ, _≤_}
+use lib.ListN.{length, take}
+use Rattle.document.specs.Posology.{Posology}
+use Rattle.document.specs.Valid.{Valid, Fits, strings, isUse}
+use Rattle.document.specs.Spells.{Spells}
+use Rattle.document.specs.Table.{tableOf}
+use Rattle.document.specs.Plain.{plain}
+use Rattle.document.specs.Answer.{taken, read, textAtMost}
+use Rattle.document.specs.Write.{Write, writes, write, fitting, readable, greatestRoom}
+use Rattle.document.proofs.PlainTexts.{plain-reads}
+use Rattle.document.proofs.Tables.{one-of-table, own-written, readable-read, read-readable}
+use Rattle.document.proofs.Spelled.{accepted-spells, spelled-accepted, one-posology}
+use Rattle.document.specs.declared.table.Table.{Table}
+
+-- A text of at most 32,768 bytes is accepted exactly when it spells a valid posology whose strings fit the text room, and then as that posology.
+pub accepted-iff-spells : (purpose room : ℕ) (text : List ℕ) (p : Posology) → (read purpose room text ≡ taken p) ↔ ((length text ≤ textAtMost) × Valid purpose p × Spells text p × Fits room p)
+accepted-iff-spells purpose room text p = (accepted-spells purpose room text p, λ h. spelled-accepted purpose room text p (h .0) (h .1) (h .2) (h .3))
+
+-- A text spells at most one posology.
+pub spells-one : (text : List ℕ) (p q : Posology) → Spells text p → Spells text q → p ≡ q
+spells-one text p q a b = one-posology text p q a b
+
+-- A table and its strings are those of at most one valid posology.
+pub table-is-one : (purpose : ℕ) (p q : Posology) → Valid purpose p → Valid purpose q → tableOf p ≡ tableOf q → strings p ≡ strings q → p ≡ q
+table-is-one purpose p q v w e f = one-of-table purpose p q v w e f
+
+-- What is written of a posology reads back to it, in any room that holds its strings.
+pub written-reads-back : (purpose room : ℕ) (p : Posology) → Valid purpose p → Fits greatestRoom p → Fits room p → read purpose room (plain p) ≡ taken p
+written-reads-back purpose room p v f g = plain-reads purpose room p v f g
+
+-- Its plain text is the one thing that the writer makes of its table and strings.
+pub plain-is-one : (purpose room : ℕ) (p : Posology) (behind : List ℕ) → Valid purpose p → Fits greatestRoom p → write purpose (tableOf p) (strings p ++ behind) room ≡ fitting room (plain p)
+plain-is-one purpose room p behind v f = own-written purpose room p behind v f
+
+-- 18: exactly the tables and text bytes that no text reads to, for this use.
+pub table-valid-iff-readable : (purpose : ℕ) (t : Table) (bytes : List ℕ) → isUse purpose ≡ true → (readable purpose t bytes ≡ true) ↔ ((text : List ℕ) × (p : Posology) × (read purpose greatestRoom text ≡ taken p) × (tableOf p ≡ t) × (take (length (strings p)) bytes ≡ strings p))
+table-valid-iff-readable purpose t bytes u = (readable-read purpose t bytes u, read-readable purpose t bytes)

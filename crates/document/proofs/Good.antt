@@ -1,0 +1,165 @@
+-- When a value is within its shape, and what reading it takes of the records and the text room.
+use mathlib.Core.Path.{_≡_, refl, ap, sym, _∙_}
+use mathlib.Core.List.{List, [], _∷_}
+use mathlib.Core.Bool.{Bool, true, false, not, _&&_, _||_, true≢false, false≢true}
+use mathlib.Core.Option.{Option, none, some}
+use Prim.Native.Nat.{ℕ, zero, suc, _+_, _-_, _≤_}
+use native.Mathlib.Omega.{arith}
+use lib.Dec.{eqb, leb, ltb}
+use lib.ListN.{length}
+use Rattle.document.specs.Utf8.{isUtf8}
+use Rattle.document.specs.Posology.{Posology, Detail, daily, freeText, single, cyclic, sequence, SequenceObject, posologySequence, pause, SequenceObjects, noObject, objectThen, ordered}
+use Rattle.document.specs.Date.{isDate, isSecond}
+use Rattle.document.specs.Schema.{greatestDecimal, Family, aPosology, aDetail, aTimed, aDosage, aSequenceObject, anAtTime, anInSegment, NumberShape, integer, decimal, StringShape, text, date, time, OfString, ListShape, fourDecimals, days, some-objects, any-objects, OfList, Four, Shape, aNumber, aString, aFlag, anObject, aList, Of, OfFamily, Rows, need, may, gives, gives-if}
+use Rattle.document.specs.Visit.{Left, isEmpty}
+use Rattle.document.specs.Valid.{isAmount, isDays, every, validDosage, validAtTime, validInSegment, validTimed, validDetail, validObject, validFields, timedRecords, detailRecords, objectRecords}
+
+abbrev pub sum : {A : Type 0} → (A → ℕ) → List A → ℕ
+sum f [] = 0
+sum f (a ∷ as′) = f a + sum f as′
+
+-- The text bytes of a detail, of a head.
+unfoldable mutual
+  pub detailText : Detail → ℕ
+  detailText (daily a b c d) = 0
+  detailText (freeText cs) = length cs
+  detailText (single td) = 0
+  detailText (cyclic unit du td per) = 0
+  detailText (sequence os) = objectsText os
+
+  pub objectText : SequenceObject → ℕ
+  objectText (posologySequence du unit po) = detailText po
+  objectText (pause du unit) = 0
+
+  pub objectsText : SequenceObjects → ℕ
+  objectsText noObject = 0
+  objectsText (objectThen o os) = objectText o + objectsText os
+
+abbrev pub givenText : Option (List ℕ) → ℕ
+givenText none = 0
+givenText (some cs) = length cs
+
+abbrev pub posologyText : Posology → ℕ
+posologyText p = detailText (p .po) + (givenText (p .unit) + (givenText (p .applInstr) + (givenText (p .roa) + givenText (p .moa))))
+
+abbrev pub familyValid : (f : Family) → OfFamily f → Bool
+familyValid (aPosology purpose) x = validFields purpose x
+familyValid (aDetail n) x = validDetail x n
+familyValid (aTimed ts) x = validTimed x ts
+familyValid aDosage x = validDosage x
+familyValid (aSequenceObject n) x = validObject x n
+familyValid anAtTime x = validAtTime x
+familyValid anInSegment x = validInSegment x
+
+abbrev pub familyRecords : (f : Family) → OfFamily f → ℕ
+familyRecords (aPosology purpose) x = detailRecords (x .po)
+familyRecords (aDetail n) x = detailRecords x
+familyRecords (aTimed ts) x = timedRecords x
+familyRecords aDosage x = 1
+familyRecords (aSequenceObject n) x = objectRecords x
+familyRecords anAtTime x = 2
+familyRecords anInSegment x = 2
+
+abbrev pub familyText : (f : Family) → OfFamily f → ℕ
+familyText (aPosology purpose) x = posologyText x
+familyText (aDetail n) x = detailText x
+familyText (aTimed ts) x = 0
+familyText aDosage x = 0
+familyText (aSequenceObject n) x = objectText x
+familyText anAtTime x = 0
+familyText anInSegment x = 0
+
+abbrev pub numberValid : NumberShape → ℕ → Bool
+numberValid (integer lo hi) x = leb lo x && leb x hi
+numberValid (decimal lo) x = leb lo x && leb x greatestDecimal
+
+abbrev pub stringValid : (s : StringShape) → OfString s → Bool
+stringValid text x = isUtf8 x
+stringValid date x = isDate x
+stringValid time x = isSecond x
+
+abbrev pub stringText : (s : StringShape) → OfString s → ℕ
+stringText text x = length x
+stringText date x = 0
+stringText time x = 0
+
+abbrev pub listValid : (s : ListShape) → OfList s → Bool
+listValid fourDecimals x = isAmount (x .morning) && isAmount (x .noon) && isAmount (x .evening) && isAmount (x .night)
+listValid (days hi) x = isDays hi x
+listValid (some-objects f) x = not (isEmpty x) && every (familyValid f) x
+listValid (any-objects f) x = every (familyValid f) x
+
+abbrev pub listRecords : (s : ListShape) → OfList s → ℕ
+listRecords fourDecimals x = 0
+listRecords (days hi) x = 0
+listRecords (some-objects f) x = sum (familyRecords f) x
+listRecords (any-objects f) x = sum (familyRecords f) x
+
+abbrev pub listText : (s : ListShape) → OfList s → ℕ
+listText fourDecimals x = 0
+listText (days hi) x = 0
+listText (some-objects f) x = sum (familyText f) x
+listText (any-objects f) x = sum (familyText f) x
+
+abbrev pub validOf : (s : Shape) → Of s → Bool
+validOf (aNumber n) x = numberValid n x
+validOf (aString s) x = stringValid s x
+validOf aFlag x = true
+validOf (anObject f) x = familyValid f x
+validOf (aList s) x = listValid s x
+
+abbrev pub recordsOf : (s : Shape) → Of s → ℕ
+recordsOf (aNumber n) x = 0
+recordsOf (aString s) x = 0
+recordsOf aFlag x = 0
+recordsOf (anObject f) x = familyRecords f x
+recordsOf (aList s) x = listRecords s x
+
+abbrev pub textOf : (s : Shape) → Of s → ℕ
+textOf (aNumber n) x = 0
+textOf (aString s) x = stringText s x
+textOf aFlag x = 0
+textOf (anObject f) x = familyText f x
+textOf (aList s) x = listText s x
+
+-- So many records and text bytes lie between two states.
+pub record Takes (records room : ℕ) (l l′ : Left) : Type 0 where
+  pub taken : l .records ≡ records + l′ .records
+  pub used : l .room ≡ room + l′ .room
+
+pub record Good (s : Shape) (x : Of s) (l l′ : Left) : Type 0 where
+  pub valid : validOf s x ≡ true
+  pub takes : Takes (recordsOf s x) (textOf s x) l l′
+
+-- A text that is given is not empty.
+abbrev pub Filled : (s : Shape) → Of s → Type 0
+Filled (aNumber n) x = Unit {0}
+Filled (aString text) x = isEmpty x ≡ false
+Filled (aString date) x = Unit {0}
+Filled (aString time) x = Unit {0}
+Filled aFlag x = Unit {0}
+Filled (anObject f) x = Unit {0}
+Filled (aList s) x = Unit {0}
+
+abbrev pub GoodOption : (s : Shape) → Option (Of s) → Left → Left → Type 0
+GoodOption s none l l′ = l ≡ l′
+GoodOption s (some x) l l′ = Good s x l l′ × Filled s x
+
+-- Values that are good one behind the other, and what the rows make of them.
+abbrev pub Made : {A : Type 0} → Rows A → Left → A → Left → Type 0
+Made (need n s k) l a l″ = (x : Of s) × (l′ : Left) × Good s x l l′ × Filled s x × Made (k x) l′ a l″
+Made (may n s k) l a l″ = (x : Option (Of s)) × (l′ : Left) × GoodOption s x l l′ × Made (k x) l′ a l″
+Made (gives b) l a l″ = (b ≡ a) × (l ≡ l″)
+Made (gives-if test b) l a l″ = (test ≡ true) × (b ≡ a) × (l ≡ l″)
+
+-- Tests that both hold, and each of them.
+pub and-both : {a b : Bool} → a ≡ true → b ≡ true → (a && b) ≡ true
+and-both {a} {b} p q = rw (p, q)
+
+pub and-left : (a b : Bool) → (a && b) ≡ true → a ≡ true
+and-left true b h = refl
+and-left false b h = h
+
+pub and-right : (a b : Bool) → (a && b) ≡ true → b ≡ true
+and-right true b h = h
+and-right false b h = absurd (false≢true h)

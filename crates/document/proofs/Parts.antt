@@ -1,0 +1,447 @@
+-- Kind by kind: what a good object's fields mean is good too, one behind the other.
+use mathlib.Core.Path.{_≡_, refl, ap, sym, subst, _∙_}
+use mathlib.Core.List.{List, [], _∷_}
+use mathlib.Core.Bool.{Bool, true, false, not, _&&_, _||_, cond, true≢false, false≢true}
+use mathlib.Core.Option.{Option, none, some, Option·getD}
+use Prim.Native.Nat.{ℕ, zero, suc, _+_, _-_, _≤_, _<_}
+use native.Mathlib.Omega.{arith}
+use lib.Dec.{eqb, leb, ltb, leb·zero}
+use lib.ListN.{length}
+use borrow.Author.Tests.{leb-true, ltb-true, le-leb, lt-ltb, not-true, not-false}
+use Rattle.document.specs.Bytes.{bytes}
+use Rattle.document.specs.Utf8.{isUtf8}
+use Rattle.document.specs.Posology.{Posology, Date, Dosage, simple, fromTo, range, AtTime, atTime, InSegment, inSegment, Timed, dosageOnly, times, daySegments, weekDays, daysOfMonth, interval, Detail, daily, freeText, single, cyclic, sequence, SequenceObject, posologySequence, pause, ordered}
+use Rattle.document.specs.Date.{among, isDate, isDay, isSecond, inOrder}
+use Rattle.document.specs.Lookup.{Entry, Found, nothing, one, twice, find}
+use Rattle.document.specs.Schema.{greatestDecimal, greatestInteger, mealCodes, sequencesInside, Family, aPosology, aDetail, aTimed, aDosage, aSequenceObject, anAtTime, anInSegment, NumberShape, integer, decimal, text, date, time, fourDecimals, days, some-objects, any-objects, underSingle, underDays, underCyclic, Shape, aNumber, aString, aFlag, anObject, aList, Of, OfFamily, Rows, need, may, gives, gives-if, aText, rowsOf, mayStand, mayOpen}
+use Rattle.document.specs.Visit.{Left, recordLess, isEmpty}
+use Rattle.document.specs.Valid.{isAmount, isDuration, isTimeUnit, isText, isDays, isMeal, isUnitFor, ifGiven, every, someObject, validObjects, validDosage, validAtTime, validInSegment, validTimed, validDetail, validObject, validFields, timedRecords, detailRecords, objectRecords}
+use Rattle.document.specs.Spells.{Meaning, Given, Perhaps, FieldsMean}
+use Rattle.document.proofs.Good.{sum, recordsOf, textOf, validOf, detailText, objectText, givenText, posologyText, Takes, Good, GoodOption, Filled, and-both, and-left, and-right}
+use Rattle.document.proofs.Makes.{takes-none, takes-then, takes-as, sum-two, sum-none, objects-valid, objects-records, objects-text, some-object, above}
+use Rattle.document.proofs.Sound.{good-free}
+
+abbrev pub GoodGiven : (s : Shape) → Option (Of s) → Left → Left → Type 0
+GoodGiven s none l l′ = l ≡ l′
+GoodGiven s (some x) l l′ = Good s x l l′
+
+-- Values that are meant and good, one behind the other.
+abbrev pub Parts : {A : Type 0} → Rows A → List (Entry Meaning) → Left → A → Left → Type 0
+Parts (need n s k) ds l a l″ = (x : Of s) × (l′ : Left) × Given s (find (bytes n) ds) x × Good s x l l′ × Parts (k x) ds l′ a l″
+Parts (may n s k) ds l a l″ = (x : Option (Of s)) × (l′ : Left) × Perhaps s (find (bytes n) ds) x × GoodGiven s x l l′ × Parts (k x) ds l′ a l″
+Parts (gives b) ds l a l″ = (b ≡ a) × (l ≡ l″)
+Parts (gives-if test b) ds l a l″ = (test ≡ true) × (b ≡ a) × (l ≡ l″)
+
+pub nothing-taken : (l l′ : Left) → Takes 0 0 l l′ → l ≡ l′
+nothing-taken l l′ t =
+    let a = t .taken in let b = t .used in
+    let p : l .records ≡ l′ .records = omega arith in
+    let q : l .room ≡ l′ .room = omega arith in
+    ap (λ (n : ℕ). left n (l .room)) p ∙ ap (λ (n : ℕ). left (l′ .records) n) q
+  where
+    left : ℕ → ℕ → Left
+    left r t = record { records = r; room = t }
+
+-- Behind the object's own record.
+inner : (c d : ℕ) (l l″ : Left) → Takes (1 + c) d l l″ → Takes c d (recordLess l) l″
+inner c d l l″ t = let a = t .taken in let b = t .used in record { taken = omega arith; used = omega arith }
+
+pub opens : (c d : ℕ) (l l″ : Left) → Takes (1 + c) d l l″ → ltb 0 (l .records) ≡ true
+opens c d l l″ t = let a = t .taken in lt-ltb 0 (l .records) (omega arith)
+
+amount-of : (a : ℕ) → isAmount a ≡ true → (leb 0 a && leb a greatestDecimal) ≡ true
+amount-of a h = and-both (leb·zero a) h
+
+amount-below : (a b : ℕ) → ltb a b ≡ true → isAmount b ≡ true → (leb 0 a && leb a greatestDecimal) ≡ true
+amount-below a b h k =
+    let p : a < b = ltb-true a b h in
+    let q : b ≤ greatestDecimal = leb-true b greatestDecimal k in
+    amount-of a (le-leb a greatestDecimal (omega arith))
+
+module _ (ds : List (Entry Meaning)) (l l″ : Left) where
+  abbrev l₁ : Left
+  l₁ = recordLess l
+
+  pub dosage-parts : (t : ℕ) (x : Dosage) → (leb 1 t && leb t 3) ≡ true → FieldsMean (rowsOf aDosage t) ds x → Good (anObject aDosage) x l l″ → Parts (rowsOf aDosage t) ds l₁ x l″
+  unfolding rowsOf validDosage
+  dosage-parts zero x h f g = absurd (false≢true h)
+  dosage-parts (suc zero) x h f g =
+      let v : validDosage (simple (f .0)) ≡ true = ap validDosage (f .2) ∙ g .valid in
+      (f .0, l₁, f .1, good-free (aNumber (decimal 1)) (f .0) l₁ v refl refl, (f .2, nothing-taken l₁ l″ (inner 0 0 l l″ (g .takes))))
+  dosage-parts (suc (suc zero)) x h f g =
+      let a = f .0 in let f₁ = f .2 in let b = f₁ .0 in let f₂ = f₁ .2 in let unit = f₂ .0 in let f₃ = f₂ .2 in let du = f₃ .0 in
+      let v : (ltb a b && isAmount b && isTimeUnit unit && isDuration du) ≡ true = ap validDosage (f₃ .2) ∙ g .valid in
+      let v₁ : (ltb a b && isAmount b && isTimeUnit unit) ≡ true = and-left _ (isDuration du) v in
+      let v₂ : (ltb a b && isAmount b) ≡ true = and-left _ (isTimeUnit unit) v₁ in
+      let less : ltb a b ≡ true = and-left (ltb a b) (isAmount b) v₂ in
+      let most : isAmount b ≡ true = and-right (ltb a b) (isAmount b) v₂ in (
+        a,
+        l₁,
+        f .1,
+        good-free (aNumber (decimal 0)) a l₁ (amount-below a b less most) refl refl,
+        (
+          b,
+          l₁,
+          f₁ .1,
+          good-free (aNumber (decimal 0)) b l₁ (amount-of b most) refl refl,
+          (
+            unit,
+            l₁,
+            f₂ .1,
+            good-free (aNumber (integer 1 7)) unit l₁ (and-right (ltb a b && isAmount b) (isTimeUnit unit) v₁) refl refl,
+            (
+              du,
+              l₁,
+              f₃ .1,
+              good-free (aNumber (integer 1 greatestInteger)) du l₁ (and-right (ltb a b && isAmount b && isTimeUnit unit) (isDuration du) v) refl refl,
+              (less, f₃ .2, nothing-taken l₁ l″ (inner 0 0 l l″ (g .takes))),
+            ),
+          ),
+        ),
+      )
+  dosage-parts (suc (suc (suc zero))) x h f g =
+      let a = f .0 in let f₁ = f .2 in let b = f₁ .0 in
+      let v : (ltb 0 a && ltb a b && isAmount b) ≡ true = ap validDosage (f₁ .2) ∙ g .valid in
+      let v₁ : (ltb 0 a && ltb a b) ≡ true = and-left _ (isAmount b) v in
+      let most : isAmount b ≡ true = and-right (ltb 0 a && ltb a b) (isAmount b) v in
+      let less : ltb a b ≡ true = and-right (ltb 0 a) (ltb a b) v₁ in (
+        a,
+        l₁,
+        f .1,
+        good-free (aNumber (decimal 1)) a l₁ (and-both (and-left (ltb 0 a) (ltb a b) v₁) (and-right (leb 0 a) (leb a greatestDecimal) (amount-below a b less most))) refl refl,
+        (
+          b,
+          l₁,
+          f₁ .1,
+          good-free (aNumber (decimal 0)) b l₁ (amount-of b most) refl refl,
+          (less, f₁ .2, nothing-taken l₁ l″ (inner 0 0 l l″ (g .takes))),
+        ),
+      )
+  dosage-parts (suc (suc (suc (suc t)))) x h f g = absurd (above 3 (suc (suc (suc (suc t)))) (omega arith) h)
+
+  pub at-time-parts : (x : AtTime) → FieldsMean (rowsOf anAtTime 0) ds x → Good (anObject anAtTime) x l l″ → Parts (rowsOf anAtTime 0) ds l₁ x l″
+  unfolding rowsOf
+  at-time-parts x f g =
+      let d = f .0 in let f₁ = f .2 in let dt = f₁ .0 in
+      let v : (validDosage d && isSecond dt) ≡ true = ap validAtTime (f₁ .2) ∙ g .valid in (
+        d,
+        l″,
+        f .1,
+        record { valid = and-left (validDosage d) (isSecond dt) v; takes = inner 1 0 l l″ (g .takes) },
+        (dt, l″, f₁ .1, good-free (aString time) dt l″ (and-right (validDosage d) (isSecond dt) v) refl refl, (f₁ .2, refl)),
+      )
+
+  pub in-segment-parts : (x : InSegment) → FieldsMean (rowsOf anInSegment 0) ds x → Good (anObject anInSegment) x l l″ → Parts (rowsOf anInSegment 0) ds l₁ x l″
+  unfolding rowsOf
+  in-segment-parts x f g =
+      let d = f .0 in let f₁ = f .2 in let s = f₁ .0 in
+      let v : (validDosage d && (leb 1 s && leb s 4)) ≡ true = ap validInSegment (f₁ .2) ∙ g .valid in (
+        d,
+        l″,
+        f .1,
+        record { valid = and-left (validDosage d) (leb 1 s && leb s 4) v; takes = inner 1 0 l l″ (g .takes) },
+        (s, l″, f₁ .1, good-free (aNumber (integer 1 4)) s l″ (and-right (validDosage d) (leb 1 s && leb s 4) v) refl refl, (f₁ .2, refl)),
+      )
+
+  module _ (ts : List ℕ) where
+    -- the takes of a timed dosage that is made of its fields
+    timed-takes : (y : Timed) (x : Timed) → y ≡ x → Good (anObject (aTimed ts)) x l l″ → Good (anObject (aTimed ts)) y l l″
+    timed-takes y x e g = subst (λ (z : Timed). Good (anObject (aTimed ts)) z l l″) (sym e) g
+
+    pub timed-parts : (t : ℕ) (x : Timed) → (leb 1 t && leb t 6) ≡ true → FieldsMean (rowsOf (aTimed ts) t) ds x → Good (anObject (aTimed ts)) x l l″ → (among t ts ≡ true) × (ltb 0 (l .records) ≡ true) × Parts (rowsOf (aTimed ts) t) ds l₁ x l″
+    unfolding rowsOf validTimed
+    timed-parts zero x h f g = absurd (false≢true h)
+    timed-parts (suc zero) x h f g =
+        let d = f .0 in let g′ = timed-takes (dosageOnly d) x (f .2) g in
+        let v : (among 1 ts && validDosage d) ≡ true = g′ .valid in (
+          and-left (among 1 ts) (validDosage d) v,
+          opens 1 0 l l″ (g′ .takes),
+          (d, l″, f .1, record { valid = and-right (among 1 ts) (validDosage d) v; takes = inner 1 0 l l″ (g′ .takes) }, (f .2, refl)),
+        )
+    timed-parts (suc (suc zero)) x h f g =
+        let as′ = f .0 in let g′ = timed-takes (times as′) x (f .2) g in
+        let v : (among 2 ts && every validAtTime as′) ≡ true = g′ .valid in
+        let e : length as′ + length as′ ≡ sum (λ (a : AtTime). 2) as′ = sym (sum-two as′) in
+        let z : 0 ≡ sum (λ (a : AtTime). 0) as′ = sym (sum-none as′) in (
+          and-left (among 2 ts) (every validAtTime as′) v,
+          opens (length as′ + length as′) 0 l l″ (g′ .takes),
+          (as′, l″, f .1, record { valid = and-right (among 2 ts) (every validAtTime as′) v; takes = takes-as e z (inner (length as′ + length as′) 0 l l″ (g′ .takes)) }, (f .2, refl)),
+        )
+    timed-parts (suc (suc (suc zero))) x h f g =
+        let as′ = f .0 in let g′ = timed-takes (daySegments as′) x (f .2) g in
+        let v : (among 3 ts && every validInSegment as′) ≡ true = g′ .valid in
+        let e : length as′ + length as′ ≡ sum (λ (a : InSegment). 2) as′ = sym (sum-two as′) in
+        let z : 0 ≡ sum (λ (a : InSegment). 0) as′ = sym (sum-none as′) in (
+          and-left (among 3 ts) (every validInSegment as′) v,
+          opens (length as′ + length as′) 0 l l″ (g′ .takes),
+          (as′, l″, f .1, record { valid = and-right (among 3 ts) (every validInSegment as′) v; takes = takes-as e z (inner (length as′ + length as′) 0 l l″ (g′ .takes)) }, (f .2, refl)),
+        )
+    timed-parts (suc (suc (suc (suc zero)))) x h f g =
+        let set = f .0 in let f₁ = f .2 in let td = f₁ .0 in let g′ = timed-takes (weekDays set td) x (f₁ .2) g in
+        let v : (among 4 ts && isDays 7 set && validTimed td underDays) ≡ true = g′ .valid in
+        let v₁ : (among 4 ts && isDays 7 set) ≡ true = and-left _ (validTimed td underDays) v in (
+          and-left (among 4 ts) (isDays 7 set) v₁,
+          opens (timedRecords td) 0 l l″ (g′ .takes),
+          (
+            set,
+            l₁,
+            f .1,
+            good-free (aList (days 7)) set l₁ (and-right (among 4 ts) (isDays 7 set) v₁) refl refl,
+            (td, l″, f₁ .1, record { valid = and-right (among 4 ts && isDays 7 set) (validTimed td underDays) v; takes = inner (timedRecords td) 0 l l″ (g′ .takes) }, (f₁ .2, refl)),
+          ),
+        )
+    timed-parts (suc (suc (suc (suc (suc zero))))) x h f g =
+        let set = f .0 in let f₁ = f .2 in let td = f₁ .0 in let g′ = timed-takes (daysOfMonth set td) x (f₁ .2) g in
+        let v : (among 5 ts && isDays 28 set && validTimed td underDays) ≡ true = g′ .valid in
+        let v₁ : (among 5 ts && isDays 28 set) ≡ true = and-left _ (validTimed td underDays) v in (
+          and-left (among 5 ts) (isDays 28 set) v₁,
+          opens (timedRecords td) 0 l l″ (g′ .takes),
+          (
+            set,
+            l₁,
+            f .1,
+            good-free (aList (days 28)) set l₁ (and-right (among 5 ts) (isDays 28 set) v₁) refl refl,
+            (td, l″, f₁ .1, record { valid = and-right (among 5 ts && isDays 28 set) (validTimed td underDays) v; takes = inner (timedRecords td) 0 l l″ (g′ .takes) }, (f₁ .2, refl)),
+          ),
+        )
+    timed-parts (suc (suc (suc (suc (suc (suc zero)))))) x h f g =
+        let d = f .0 in let f₁ = f .2 in let du = f₁ .0 in let f₂ = f₁ .2 in let unit = f₂ .0 in let g′ = timed-takes (interval d du unit) x (f₂ .2) g in
+        let v : (among 6 ts && validDosage d && isDuration du && isTimeUnit unit) ≡ true = g′ .valid in
+        let v₁ : (among 6 ts && validDosage d && isDuration du) ≡ true = and-left _ (isTimeUnit unit) v in
+        let v₂ : (among 6 ts && validDosage d) ≡ true = and-left _ (isDuration du) v₁ in (
+          and-left (among 6 ts) (validDosage d) v₂,
+          opens 1 0 l l″ (g′ .takes),
+          (
+            d,
+            l″,
+            f .1,
+            record { valid = and-right (among 6 ts) (validDosage d) v₂; takes = inner 1 0 l l″ (g′ .takes) },
+            (
+              du,
+              l″,
+              f₁ .1,
+              good-free (aNumber (integer 1 greatestInteger)) du l″ (and-right (among 6 ts && validDosage d) (isDuration du) v₁) refl refl,
+              (unit, l″, f₂ .1, good-free (aNumber (integer 1 7)) unit l″ (and-right (among 6 ts && validDosage d && isDuration du) (isTimeUnit unit) v) refl refl, (f₂ .2, refl)),
+            ),
+          ),
+        )
+    timed-parts (suc (suc (suc (suc (suc (suc (suc t))))))) x h f g = absurd (above 6 (suc (suc (suc (suc (suc (suc (suc t))))))) (omega arith) h)
+
+-- An absent tdpc is 1.
+per-given : (x : Option ℕ) (l : Left) → isDuration (Option·getD x 1) ≡ true → GoodGiven (aNumber (integer 1 greatestInteger)) x l l
+per-given none l v = refl
+per-given (some n) l v = good-free (aNumber (integer 1 greatestInteger)) n l v refl refl
+
+sequence-back : (n : ℕ) (os : List SequenceObject) → validDetail (sequence (ordered os)) n ≡ true → (ltb 0 n ≡ true) × ((not (isEmpty os) && every (λ o. validObject o (n - 1)) os) ≡ true)
+unfolding validDetail
+sequence-back zero os v = absurd (false≢true v)
+sequence-back (suc k) os v =
+    let e : k ≡ suc k - 1 = omega arith in (
+      lt-ltb 0 (suc k) (omega arith),
+      subst (λ (j : ℕ). (not (isEmpty os) && every (λ o. validObject o j) os) ≡ true) e
+          (and-both (sym (some-object os) ∙ and-left (someObject (ordered os)) (validObjects (ordered os) k) v) (sym (objects-valid k os) ∙ and-right (someObject (ordered os)) (validObjects (ordered os) k) v)),
+    )
+
+module _ (ds : List (Entry Meaning)) (l l″ : Left) (n : ℕ) where
+  detail-made : (y : Detail) (x : Detail) → y ≡ x → Good (anObject (aDetail n)) x l l″ → Good (anObject (aDetail n)) y l l″
+  detail-made y x e g = subst (λ (z : Detail). Good (anObject (aDetail n)) z l l″) (sym e) g
+
+  pub detail-parts : (t : ℕ) (x : Detail) → (leb 1 t && leb t 5) ≡ true → FieldsMean (rowsOf (aDetail n) t) ds x → Good (anObject (aDetail n)) x l l″ → ((not (eqb t 5) || ltb 0 n) ≡ true) × (ltb 0 (l .records) ≡ true) × Parts (rowsOf (aDetail n) t) ds (recordLess l) x l″
+  unfolding rowsOf validDetail detailRecords detailText
+  detail-parts zero x h f g = absurd (false≢true h)
+  detail-parts (suc zero) x h f g =
+      let four = f .0 in let g′ = detail-made (daily (four .morning) (four .noon) (four .evening) (four .night)) x (f .2) g in
+      (refl, opens 0 0 l l″ (g′ .takes), (four, recordLess l, f .1, good-free (aList fourDecimals) four (recordLess l) (g′ .valid) refl refl, (f .2, nothing-taken (recordLess l) l″ (inner 0 0 l l″ (g′ .takes)))))
+  detail-parts (suc (suc zero)) x h f g =
+      let cs = f .0 in let g′ = detail-made (freeText cs) x (f .2) g in
+      (refl, opens 0 (length cs) l l″ (g′ .takes), (cs, l″, f .1, record { valid = and-right (not (isEmpty cs)) (isUtf8 cs) (g′ .valid); takes = inner 0 (length cs) l l″ (g′ .takes) }, (f .2, refl)))
+  detail-parts (suc (suc (suc zero))) x h f g =
+      let td = f .0 in let g′ = detail-made (single td) x (f .2) g in
+      (refl, opens (timedRecords td) 0 l l″ (g′ .takes), (td, l″, f .1, record { valid = g′ .valid; takes = inner (timedRecords td) 0 l l″ (g′ .takes) }, (f .2, refl)))
+  detail-parts (suc (suc (suc (suc zero)))) x h f g =
+      let unit = f .0 in let f₁ = f .2 in let du = f₁ .0 in let f₂ = f₁ .2 in let td = f₂ .0 in let f₃ = f₂ .2 in let per = f₃ .0 in
+      let g′ = detail-made (cyclic unit du td (Option·getD per 1)) x (f₃ .2) g in
+      let v : (isTimeUnit unit && isDuration du && validTimed td (underCyclic unit) && isDuration (Option·getD per 1)) ≡ true = g′ .valid in
+      let v₁ : (isTimeUnit unit && isDuration du && validTimed td (underCyclic unit)) ≡ true = and-left _ (isDuration (Option·getD per 1)) v in
+      let v₂ : (isTimeUnit unit && isDuration du) ≡ true = and-left _ (validTimed td (underCyclic unit)) v₁ in (
+        refl,
+        opens (timedRecords td) 0 l l″ (g′ .takes),
+        (
+          unit,
+          recordLess l,
+          f .1,
+          good-free (aNumber (integer 1 7)) unit (recordLess l) (and-left (isTimeUnit unit) (isDuration du) v₂) refl refl,
+          (
+            du,
+            recordLess l,
+            f₁ .1,
+            good-free (aNumber (integer 1 greatestInteger)) du (recordLess l) (and-right (isTimeUnit unit) (isDuration du) v₂) refl refl,
+            (
+              td,
+              l″,
+              f₂ .1,
+              record { valid = and-right (isTimeUnit unit && isDuration du) (validTimed td (underCyclic unit)) v₁; takes = inner (timedRecords td) 0 l l″ (g′ .takes) },
+              (per, l″, f₃ .1, per-given per l″ (and-right (isTimeUnit unit && isDuration du && validTimed td (underCyclic unit)) (isDuration (Option·getD per 1)) v), (f₃ .2, refl)),
+            ),
+          ),
+        ),
+      )
+  detail-parts (suc (suc (suc (suc (suc zero))))) x h f g =
+      let os = f .0 in let g′ = detail-made (sequence (ordered os)) x (f .2) g in
+      let v = sequence-back n os (g′ .valid) in
+      let e = objects-records os in let z = objects-text os in
+      let t : Takes (1 + sum objectRecords os) (sum objectText os) l l″ = takes-as (omega arith) (omega arith) (g′ .takes) in
+      (v .0, opens (sum objectRecords os) (sum objectText os) l l″ t, (os, l″, f .1, record { valid = v .1; takes = inner (sum objectRecords os) (sum objectText os) l l″ t }, (f .2, refl)))
+  detail-parts (suc (suc (suc (suc (suc (suc t)))))) x h f g = absurd (above 5 (suc (suc (suc (suc (suc (suc t)))))) (omega arith) h)
+
+  object-made : (y : SequenceObject) (x : SequenceObject) → y ≡ x → Good (anObject (aSequenceObject n)) x l l″ → Good (anObject (aSequenceObject n)) y l l″
+  object-made y x e g = subst (λ (z : SequenceObject). Good (anObject (aSequenceObject n)) z l l″) (sym e) g
+
+  pub object-parts : (t : ℕ) (x : SequenceObject) → (leb 1 t && leb t 2) ≡ true → FieldsMean (rowsOf (aSequenceObject n) t) ds x → Good (anObject (aSequenceObject n)) x l l″ → (ltb 0 (l .records) ≡ true) × Parts (rowsOf (aSequenceObject n) t) ds (recordLess l) x l″
+  unfolding rowsOf validDetail detailRecords detailText
+  object-parts zero x h f g = absurd (false≢true h)
+  object-parts (suc zero) x h f g =
+      let du = f .0 in let f₁ = f .2 in let unit = f₁ .0 in let f₂ = f₁ .2 in let po = f₂ .0 in let g′ = object-made (posologySequence du unit po) x (f₂ .2) g in
+      let v : (isDuration du && isTimeUnit unit && validDetail po n) ≡ true = g′ .valid in
+      let v₁ : (isDuration du && isTimeUnit unit) ≡ true = and-left _ (validDetail po n) v in (
+        opens (detailRecords po) (detailText po) l l″ (g′ .takes),
+        (
+          du,
+          recordLess l,
+          f .1,
+          good-free (aNumber (integer 1 greatestInteger)) du (recordLess l) (and-left (isDuration du) (isTimeUnit unit) v₁) refl refl,
+          (
+            unit,
+            recordLess l,
+            f₁ .1,
+            good-free (aNumber (integer 1 7)) unit (recordLess l) (and-right (isDuration du) (isTimeUnit unit) v₁) refl refl,
+            (po, l″, f₂ .1, record { valid = and-right (isDuration du && isTimeUnit unit) (validDetail po n) v; takes = inner (detailRecords po) (detailText po) l l″ (g′ .takes) }, (f₂ .2, refl)),
+          ),
+        ),
+      )
+  object-parts (suc (suc zero)) x h f g =
+      let du = f .0 in let f₁ = f .2 in let unit = f₁ .0 in let g′ = object-made (pause du unit) x (f₁ .2) g in
+      let v : (isDuration du && isTimeUnit unit) ≡ true = g′ .valid in (
+        opens 0 0 l l″ (g′ .takes),
+        (
+          du,
+          recordLess l,
+          f .1,
+          good-free (aNumber (integer 1 greatestInteger)) du (recordLess l) (and-left (isDuration du) (isTimeUnit unit) v) refl refl,
+          (
+            unit,
+            recordLess l,
+            f₁ .1,
+            good-free (aNumber (integer 1 7)) unit (recordLess l) (and-right (isDuration du) (isTimeUnit unit) v) refl refl,
+            (f₁ .2, nothing-taken (recordLess l) l″ (inner 0 0 l l″ (g′ .takes))),
+          ),
+        ),
+      )
+  object-parts (suc (suc (suc t))) x h f g = absurd (above 2 (suc (suc (suc t))) (omega arith) h)
+
+-- The head. What is left before a field is what is left behind it and what the field takes.
+abbrev before : ℕ → Left → Left
+before d k = record { records = k .records; room = d + k .room }
+
+text-given : (u : Option (List ℕ)) (k : Left) → ifGiven isText u ≡ true → GoodGiven aText u (before (givenText u) k) k
+text-given none k v = nothing-taken (before 0 k) k (record { taken = omega arith; used = omega arith })
+text-given (some cs) k v = record { valid = and-right (not (isEmpty cs)) (isUtf8 cs) v; takes = record { taken = omega arith; used = omega arith } }
+
+date-given : (d : Option Date) (k : Left) → ifGiven isDate d ≡ true → GoodGiven (aString date) d k k
+date-given none k v = refl
+date-given (some d) k v = good-free (aString date) d k v refl refl
+
+flag-given : (b : Option Bool) (k : Left) → GoodGiven aFlag b k k
+flag-given none k = refl
+flag-given (some b) k = good-free aFlag b k refl refl refl
+
+meal-given : (m : Option ℕ) (k : Left) → ifGiven isMeal m ≡ true → GoodGiven (aNumber (integer 1 mealCodes)) m k k
+meal-given none k v = refl
+meal-given (some m) k v = good-free (aNumber (integer 1 mealCodes)) m k v refl refl
+
+perhaps-given : (s : Shape) (f : Found Meaning) (x : Of s) → Perhaps s f (some x) → Given s f x
+perhaps-given s nothing x h = h
+perhaps-given s (one m) x h = h
+perhaps-given s twice x h = h
+
+unit-text : (purpose : ℕ) (u : Option (List ℕ)) → isUnitFor purpose u ≡ true → ifGiven isText u ≡ true
+unit-text purpose none v = refl
+unit-text purpose (some u) v = v
+
+unit-parts : (purpose : ℕ) (b : Bool) (k : Option (List ℕ) → Rows Posology) (ds : List (Entry Meaning)) (l l′ l″ : Left) (u : Option (List ℕ)) (p : Posology) → eqb purpose 3 ≡ b → isUnitFor purpose u ≡ true → Perhaps aText (find (bytes "unit") ds) u → GoodGiven aText u l l′ → Parts (k u) ds l′ p l″ → Parts (cond b (may "unit" aText k) (need "unit" aText λ u. k (some u))) ds l p l″
+unit-parts purpose true k ds l l′ l″ u p e v h g m = (u, l′, h, g, m)
+unit-parts purpose false k ds l l′ l″ none p e v h g m = absurd (false≢true (sym e ∙ v))
+unit-parts purpose false k ds l l′ l″ (some u) p e v h g m = (u, l′, perhaps-given aText (find (bytes "unit") ds) u h, g, m)
+
+pub all-nine : (a b c d e f g h i : Bool) → (a && b && c && d && e && f && g && h && i) ≡ true → (a ≡ true) × (b ≡ true) × (c ≡ true) × (d ≡ true) × (e ≡ true) × (f ≡ true) × (g ≡ true) × (h ≡ true) × (i ≡ true)
+all-nine a b c d e f g h i v =
+    let v₇ = and-left (a && b && c && d && e && f && g && h) i v in
+    let v₆ = and-left (a && b && c && d && e && f && g) h v₇ in
+    let v₅ = and-left (a && b && c && d && e && f) g v₆ in
+    let v₄ = and-left (a && b && c && d && e) f v₅ in
+    let v₃ = and-left (a && b && c && d) e v₄ in
+    let v₂ = and-left (a && b && c) d v₃ in
+    let v₁ = and-left (a && b) c v₂ in
+    (and-left a b v₁, and-right a b v₁, and-right (a && b) c v₂, and-right (a && b && c) d v₃, and-right (a && b && c && d) e v₄, and-right (a && b && c && d && e) f v₅, and-right (a && b && c && d && e && f) g v₆, and-right (a && b && c && d && e && f && g) h v₇, and-right (a && b && c && d && e && f && g && h) i v)
+
+pub posology-parts : (purpose : ℕ) (ds : List (Entry Meaning)) (l l″ : Left) (p : Posology) → FieldsMean (rowsOf (aPosology 3) 0) ds p → Good (anObject (aPosology purpose)) p l l″ → Parts (rowsOf (aPosology purpose) 0) ds l p l″
+unfolding rowsOf validFields
+posology-parts purpose ds l l″ p f g =
+    let f₁ = f .2 in let f₂ = f₁ .2 in let f₃ = f₂ .2 in let f₄ = f₃ .2 in let f₅ = f₄ .2 in let f₆ = f₅ .2 in let f₇ = f₆ .2 in let f₈ = f₇ .2 in
+    let from = f .0 in let to = f₁ .0 in let reserve = f₂ .0 in let po = f₃ .0 in let meal = f₄ .0 in let unit = f₅ .0 in let instr = f₆ .0 in let roa = f₇ .0 in let moa = f₈ .0 in
+    let q : Posology = record { dtFrom = from; dtTo = to; inRes = Option·getD reserve false; po = po; relMeal = meal; unit = unit; applInstr = instr; roa = roa; moa = moa } in
+    let g′ : Good (anObject (aPosology purpose)) q l l″ = subst (λ (z : Posology). Good (anObject (aPosology purpose)) z l l″) (sym (f₈ .2)) g in
+    let v = all-nine (ifGiven isDate from) (ifGiven isDate to) (validDetail po sequencesInside) (ifGiven isMeal meal) (isUnitFor purpose unit) (ifGiven isText instr) (ifGiven isText roa) (ifGiven isText moa) (inOrder from to) (g′ .valid) in
+    let l₈ = before (givenText moa) l″ in
+    let l₇ = before (givenText roa) l₈ in
+    let l₆ = before (givenText instr) l₇ in
+    let l₅ = before (givenText unit) l₆ in
+    let taken = g′ .takes .taken in let used = g′ .takes .used in (
+      from,
+      l,
+      f .1,
+      date-given from l (v .0),
+      (
+        to,
+        l,
+        f₁ .1,
+        date-given to l (v .1),
+        (
+          reserve,
+          l,
+          f₂ .1,
+          flag-given reserve l,
+          (
+            po,
+            l₅,
+            f₃ .1,
+            record { valid = v .2; takes = record { taken = omega arith; used = omega arith } },
+            (
+              meal,
+              l₅,
+              f₄ .1,
+              meal-given meal l₅ (v .3),
+              unit-parts purpose (eqb purpose 3) _ ds l₅ l₆ l″ unit p refl (v .4) (f₅ .1) (text-given unit l₆ (unit-text purpose unit (v .4))) (
+                instr,
+                l₇,
+                f₆ .1,
+                text-given instr l₇ (v .5),
+                (
+                  roa,
+                  l₈,
+                  f₇ .1,
+                  text-given roa l₈ (v .6),
+                  (
+                    moa,
+                    l″,
+                    f₈ .1,
+                    text-given moa l″ (v .7),
+                    (v .8, f₈ .2, refl),
+                  ),
+                ),
+              ),
+            ),
+          ),
+        ),
+      ),
+    )

@@ -1,0 +1,293 @@
+-- The plain tree of a valid posology means it.
+use mathlib.Core.Path.{_≡_, refl, ap, sym, subst, _∙_}
+use mathlib.Core.List.{List, [], _∷_, _++_}
+use mathlib.Core.Bool.{Bool, true, false, cond, not, _&&_, _||_, true≢false, false≢true}
+use mathlib.Core.Option.{Option, none, some, Option·getD}
+use Prim.Native.Nat.{ℕ, zero, suc, _-_, _≤_, _<_}
+use native.Mathlib.Omega.{arith}
+use lib.Dec.{eqb, leb, ltb}
+use borrow.Author.Tests.{leb-true, ltb-true, eqb-true, not-true}
+use Rattle.json.specs.Tree.{Tree, object, list, string, number, bool, null, Members, noMember, Elements, noElement, element}
+use Rattle.document.specs.Utf8.{isUtf8}
+use Rattle.document.specs.Posology.{Posology, Date, Dosage, simple, fromTo, range, AtTime, atTime, InSegment, inSegment, Timed, dosageOnly, times, daySegments, weekDays, daysOfMonth, interval, Detail, daily, freeText, single, cyclic, sequence, SequenceObject, posologySequence, pause, SequenceObjects, noObject, objectThen, ordered, listed}
+use Rattle.document.specs.Date.{among, isSecond}
+use Rattle.document.specs.Schema.{greatestDecimal, greatestInteger, Family, OfFamily, aDetail, aTimed, aDosage, aSequenceObject, anAtTime, anInSegment, integer, decimal, aNumber, anObject, aList, days, underSingle, underDays, underCyclic, rowsOf}
+use Rattle.document.specs.Visit.{isEmpty}
+use Rattle.document.specs.Valid.{isAmount, isDuration, isTimeUnit, isText, climbs, isDays, every, validDosage, validAtTime, validInSegment, validTimed, validDetail, validObject, validObjects, someObject}
+use Rattle.document.specs.Spells.{meaningOf, meantElements, EachMeans, ElementsMean, DigitsMean}
+use Rattle.document.specs.Plain as P
+use Rattle.document.specs.Plain.{wholeDigits, fractionDigits, pointed, dosageTree, daysTree, timesTree, segmentsTree, timedTree, detailTree, objectTree, objectsTree}
+use Rattle.document.proofs.Good.{and-left, and-right}
+use Rattle.document.proofs.Days.{climbs-same, climbs-distinct}
+use Rattle.document.proofs.Written.{whole-means, amount-means}
+use Rattle.document.proofs.WrittenDates.{time-reads}
+
+pub duration : (n : ℕ) → isDuration n ≡ true → n ≤ 999999
+duration n v = let h : n ≤ greatestInteger = leb-true n greatestInteger (and-right (leb 1 n) (leb n greatestInteger) v) in omega arith
+
+pub unit : (n : ℕ) → isTimeUnit n ≡ true → n ≤ 999999
+unit n v = let h : n ≤ 7 = leb-true n 7 (and-right (leb 1 n) (leb n 7) v) in omega arith
+
+pub amount : (n : ℕ) → isAmount n ≡ true → n ≤ 999999999999
+amount n v = leb-true n greatestDecimal v
+
+pub lesser : (a b : ℕ) → ltb a b ≡ true → isAmount b ≡ true → a ≤ 999999999999
+lesser a b h v = let p : a < b = ltb-true a b h in let q : b ≤ 999999999999 = amount b v in omega arith
+
+pub dosage-means : (d : Dosage) → validDosage d ≡ true → meaningOf (dosageTree d) .means (anObject aDosage) d
+unfolding meaningOf dosageTree rowsOf validDosage
+dosage-means (simple a) v = (refl, (1, (refl, whole-means 1 3 1 (omega arith)), refl, (refl, (a, (refl, amount-means 1 a (amount a (and-right (ltb 0 a) (isAmount a) v))), refl))))
+dosage-means (fromTo a b u du) v =
+    let v₁ = and-left (ltb a b && isAmount b && isTimeUnit u) (isDuration du) v in
+    let v₂ = and-left (ltb a b && isAmount b) (isTimeUnit u) v₁ in
+    let most = and-right (ltb a b) (isAmount b) v₂ in (
+      refl,
+      (
+        2,
+        (refl, whole-means 1 3 2 (omega arith)),
+        refl,
+        (
+          refl,
+          (
+            a,
+            (refl, amount-means 0 a (lesser a b (and-left (ltb a b) (isAmount b) v₂) most)),
+            (
+              b,
+              (refl, amount-means 0 b (amount b most)),
+              (
+                u,
+                (refl, whole-means 1 7 u (unit u (and-right (ltb a b && isAmount b) (isTimeUnit u) v₁))),
+                (du, (refl, whole-means 1 greatestInteger du (duration du (and-right (ltb a b && isAmount b && isTimeUnit u) (isDuration du) v))), refl),
+              ),
+            ),
+          ),
+        ),
+      ),
+    )
+dosage-means (range a b) v =
+    let v₁ = and-left (ltb 0 a && ltb a b) (isAmount b) v in
+    let most = and-right (ltb 0 a && ltb a b) (isAmount b) v in (
+      refl,
+      (
+        3,
+        (refl, whole-means 1 3 3 (omega arith)),
+        refl,
+        (
+          refl,
+          (
+            a,
+            (refl, amount-means 1 a (lesser a b (and-right (ltb 0 a) (ltb a b) v₁) most)),
+            (b, (refl, amount-means 0 b (amount b most)), refl),
+          ),
+        ),
+      ),
+    )
+
+-- A value that means an object is not absent.
+there : (t : Tree) (f : Family) (x : OfFamily f) → meaningOf t .means (anObject f) x → meaningOf t .absent (anObject f) ≡ false
+unfolding meaningOf
+there (object p ms) f x m = refl
+there (list p es) f x m = refl
+there (string p cs) f x m = refl
+there (number p raw) f x m = refl
+there (bool p b) f x m = refl
+there (null p) f x m = absurd m
+
+pub given-object : (t : Tree) (f : Family) (x : OfFamily f) → meaningOf t .means (anObject f) x → (meaningOf t .absent (anObject f) ≡ false) × meaningOf t .means (anObject f) x
+given-object t f x m = (there t f x m, m)
+
+times-mean : (ts : List AtTime) → every validAtTime ts ≡ true → EachMeans (anObject anAtTime) (meantElements (timesTree ts)) ts
+unfolding meaningOf rowsOf
+times-mean [] v = tt
+times-mean (atTime d dt ∷ ts) v =
+    let v₁ = and-left (validDosage d && isSecond dt) (every validAtTime ts) v in (
+      (refl, (refl, (d, given-object (dosageTree d) aDosage d (dosage-means d (and-left (validDosage d) (isSecond dt) v₁)), (dt, (refl, time-reads dt (and-right (validDosage d) (isSecond dt) v₁)), refl)))),
+      times-mean ts (and-right (validDosage d && isSecond dt) (every validAtTime ts) v),
+    )
+
+segments-mean : (ss : List InSegment) → every validInSegment ss ≡ true → EachMeans (anObject anInSegment) (meantElements (segmentsTree ss)) ss
+unfolding meaningOf rowsOf
+segments-mean [] v = tt
+segments-mean (inSegment d s ∷ ss) v =
+    let v₁ = and-left (validDosage d && (leb 1 s && leb s 4)) (every validInSegment ss) v in
+    let h : s ≤ 4 = leb-true s 4 (and-right (leb 1 s) (leb s 4) (and-right (validDosage d) (leb 1 s && leb s 4) v₁)) in (
+      (refl, (refl, (d, given-object (dosageTree d) aDosage d (dosage-means d (and-left (validDosage d) (leb 1 s && leb s 4) v₁)), (s, (refl, whole-means 1 4 s (omega arith)), refl)))),
+      segments-mean ss (and-right (validDosage d && (leb 1 s && leb s 4)) (every validInSegment ss) v),
+    )
+
+each-day : (hi from : ℕ) (ds : List ℕ) → hi ≤ 28 → climbs from hi ds ≡ true → EachMeans (aNumber (integer 1 hi)) (meantElements (daysTree ds)) ds
+unfolding meaningOf
+each-day hi from [] h c = tt
+each-day hi from (d ∷ ds) h c =
+    let g : d ≤ hi = leb-true d hi (and-right (ltb from d) (leb d hi) (and-left (ltb from d && leb d hi) (climbs d hi ds) c)) in
+    (whole-means 1 hi d (omega arith), each-day hi d ds h (and-right (ltb from d && leb d hi) (climbs d hi ds) c))
+
+days-mean : (hi : ℕ) (ds : List ℕ) → hi ≤ 28 → isDays hi ds ≡ true → ElementsMean (days hi) (meantElements (daysTree ds)) ds
+days-mean hi ds h v = let c = and-right (not (isEmpty ds)) (climbs 0 hi ds) v in (ds, each-day hi 0 ds h c, climbs-distinct 0 hi ds c, climbs-same 0 hi ds c)
+
+pub timed-means : (td : Timed) (ts us : List ℕ) → validTimed td ts ≡ true → meaningOf (timedTree td) .means (anObject (aTimed us)) td
+unfolding meaningOf timedTree rowsOf validTimed
+timed-means (dosageOnly d) ts us v = (refl, (1, (refl, whole-means 1 6 1 (omega arith)), refl, (refl, (d, given-object (dosageTree d) aDosage d (dosage-means d (and-right (among 1 ts) (validDosage d) v)), refl))))
+timed-means (times as′) ts us v = (refl, (2, (refl, whole-means 1 6 2 (omega arith)), refl, (refl, (as′, (refl, times-mean as′ (and-right (among 2 ts) (every validAtTime as′) v)), refl))))
+timed-means (daySegments as′) ts us v = (refl, (3, (refl, whole-means 1 6 3 (omega arith)), refl, (refl, (as′, (refl, segments-mean as′ (and-right (among 3 ts) (every validInSegment as′) v)), refl))))
+timed-means (weekDays ds td) ts us v =
+    let v₁ = and-left (among 4 ts && isDays 7 ds) (validTimed td underDays) v in
+    (refl, (4, (refl, whole-means 1 6 4 (omega arith)), refl, (refl, (ds, (refl, days-mean 7 ds (omega arith) (and-right (among 4 ts) (isDays 7 ds) v₁)), (td, given-object (timedTree td) (aTimed underDays) td (timed-means td underDays underDays (and-right (among 4 ts && isDays 7 ds) (validTimed td underDays) v)), refl)))))
+timed-means (daysOfMonth ds td) ts us v =
+    let v₁ = and-left (among 5 ts && isDays 28 ds) (validTimed td underDays) v in
+    (refl, (5, (refl, whole-means 1 6 5 (omega arith)), refl, (refl, (ds, (refl, days-mean 28 ds (omega arith) (and-right (among 5 ts) (isDays 28 ds) v₁)), (td, given-object (timedTree td) (aTimed underDays) td (timed-means td underDays underDays (and-right (among 5 ts && isDays 28 ds) (validTimed td underDays) v)), refl)))))
+timed-means (interval d du u) ts us v =
+    let v₁ = and-left (among 6 ts && validDosage d && isDuration du) (isTimeUnit u) v in
+    let v₂ = and-left (among 6 ts && validDosage d) (isDuration du) v₁ in (
+      refl,
+      (
+        6,
+        (refl, whole-means 1 6 6 (omega arith)),
+        refl,
+        (
+          refl,
+          (
+            d,
+            given-object (dosageTree d) aDosage d (dosage-means d (and-right (among 6 ts) (validDosage d) v₂)),
+            (
+              du,
+              (refl, whole-means 1 greatestInteger du (duration du (and-right (among 6 ts && validDosage d) (isDuration du) v₁))),
+              (u, (refl, whole-means 1 7 u (unit u (and-right (among 6 ts && validDosage d && isDuration du) (isTimeUnit u) v))), refl),
+            ),
+          ),
+        ),
+      ),
+    )
+
+abbrev cyclicTree : ℕ → ℕ → Timed → ℕ → Bool → Tree
+cyclicTree u du td per one = P.typed 4 (P.field "cyDuU" (P.whole u) (P.field "cyDu" (P.whole du) (P.field "tdo" (timedTree td) (P.fieldIf (not one) "tdpc" (P.whole per) noMember))))
+
+-- "tdpc of 1 left out"
+cyclic-means : (u du : ℕ) (td : Timed) (per m : ℕ) (one : Bool) → eqb per 1 ≡ one → isTimeUnit u ≡ true → isDuration du ≡ true → validTimed td (underCyclic u) ≡ true → isDuration per ≡ true → meaningOf (cyclicTree u du td per one) .means (anObject (aDetail m)) (cyclic u du td per)
+unfolding meaningOf rowsOf wholeDigits
+cyclic-means u du td per m true e vu vd vt vp = (
+  refl,
+  (
+    4,
+    (refl, whole-means 1 5 4 (omega arith)),
+    refl,
+    (
+      refl,
+      (
+        u,
+        (refl, whole-means 1 7 u (unit u vu)),
+        (
+          du,
+          (refl, whole-means 1 greatestInteger du (duration du vd)),
+          (
+            td,
+            given-object (timedTree td) (aTimed (underCyclic u)) td (timed-means td (underCyclic u) (underCyclic u) vt),
+            (none, tt, ap (cyclic u du td) (sym (eqb-true per 1 e))),
+          ),
+        ),
+      ),
+    ),
+  ),
+)
+cyclic-means u du td per m false e vu vd vt vp = (
+  refl,
+  (
+    4,
+    (refl, whole-means 1 5 4 (omega arith)),
+    refl,
+    (
+      refl,
+      (
+        u,
+        (refl, whole-means 1 7 u (unit u vu)),
+        (
+          du,
+          (refl, whole-means 1 greatestInteger du (duration du vd)),
+          (
+            td,
+            given-object (timedTree td) (aTimed (underCyclic u)) td (timed-means td (underCyclic u) (underCyclic u) vt),
+            (some per, (refl, whole-means 1 greatestInteger per (duration per vp)), refl),
+          ),
+        ),
+      ),
+    ),
+  ),
+)
+
+ordered-listed : (os : SequenceObjects) → ordered (listed os) ≡ os
+ordered-listed noObject = refl
+ordered-listed (objectThen o os) = ap (objectThen o) (ordered-listed os)
+
+mutual
+  unfolding meaningOf detailTree rowsOf validDetail
+
+  pub detail-means : (d : Detail) (n : ℕ) (m : ℕ) → validDetail d n ≡ true → meaningOf (detailTree d) .means (anObject (aDetail m)) d
+  detail-means (daily a b c d) n m v =
+      let v₁ = and-left (isAmount a && isAmount b && isAmount c) (isAmount d) v in
+      let v₂ = and-left (isAmount a && isAmount b) (isAmount c) v₁ in (
+        refl,
+        (
+          1,
+          (refl, whole-means 1 5 1 (omega arith)),
+          refl,
+          (
+            refl,
+            (
+              record { morning = a; noon = b; evening = c; night = d },
+              (refl, (amount-means 0 a (amount a (and-left (isAmount a) (isAmount b) v₂)), (amount-means 0 b (amount b (and-right (isAmount a) (isAmount b) v₂)), (amount-means 0 c (amount c (and-right (isAmount a && isAmount b) (isAmount c) v₁)), (amount-means 0 d (amount d (and-right (isAmount a && isAmount b && isAmount c) (isAmount d) v)), tt))))),
+              refl,
+            ),
+          ),
+        ),
+      )
+  detail-means (freeText cs) n m v = (refl, (2, (refl, whole-means 1 5 2 (omega arith)), refl, (refl, (cs, (not-true (isEmpty cs) (and-left (not (isEmpty cs)) (isUtf8 cs) v), refl), refl))))
+  detail-means (single td) n m v = (refl, (3, (refl, whole-means 1 5 3 (omega arith)), refl, (refl, (td, given-object (timedTree td) (aTimed underSingle) td (timed-means td underSingle underSingle v), refl))))
+  detail-means (cyclic u du td per) n m v =
+      let v₁ = and-left (isTimeUnit u && isDuration du && validTimed td (underCyclic u)) (isDuration per) v in
+      let v₂ = and-left (isTimeUnit u && isDuration du) (validTimed td (underCyclic u)) v₁ in
+      cyclic-means u du td per m (eqb per 1) refl (and-left (isTimeUnit u) (isDuration du) v₂) (and-right (isTimeUnit u) (isDuration du) v₂) (and-right (isTimeUnit u && isDuration du) (validTimed td (underCyclic u)) v₁) (and-right (isTimeUnit u && isDuration du && validTimed td (underCyclic u)) (isDuration per) v)
+  detail-means (sequence os) zero m v = absurd (false≢true v)
+  detail-means (sequence os) (suc n) m v = (refl, (5, (refl, whole-means 1 5 5 (omega arith)), refl, (refl, (listed os, (refl, objects-mean os n (m - 1) (and-right (someObject os) (validObjects os n) v)), ap sequence (ordered-listed os)))))
+
+  pub object-means : (o : SequenceObject) (n : ℕ) (m : ℕ) → validObject o n ≡ true → meaningOf (objectTree o) .means (anObject (aSequenceObject m)) o
+  object-means (posologySequence du u po) n m v =
+      let v₁ = and-left (isDuration du && isTimeUnit u) (validDetail po n) v in (
+        refl,
+        (
+          1,
+          (refl, whole-means 1 2 1 (omega arith)),
+          refl,
+          (
+            refl,
+            (
+              du,
+              (refl, whole-means 1 greatestInteger du (duration du (and-left (isDuration du) (isTimeUnit u) v₁))),
+              (
+                u,
+                (refl, whole-means 1 7 u (unit u (and-right (isDuration du) (isTimeUnit u) v₁))),
+                (po, given-object (detailTree po) (aDetail m) po (detail-means po n m (and-right (isDuration du && isTimeUnit u) (validDetail po n) v)), refl),
+              ),
+            ),
+          ),
+        ),
+      )
+  object-means (pause du u) n m v = (
+    refl,
+    (
+      2,
+      (refl, whole-means 1 2 2 (omega arith)),
+      refl,
+      (
+        refl,
+        (
+          du,
+          (refl, whole-means 1 greatestInteger du (duration du (and-left (isDuration du) (isTimeUnit u) v))),
+          (u, (refl, whole-means 1 7 u (unit u (and-right (isDuration du) (isTimeUnit u) v))), refl),
+        ),
+      ),
+    ),
+  )
+
+  objects-mean : (os : SequenceObjects) (n : ℕ) (m : ℕ) → validObjects os n ≡ true → EachMeans (anObject (aSequenceObject m)) (meantElements (objectsTree os)) (listed os)
+  objects-mean noObject n m v = tt
+  objects-mean (objectThen o os) n m v = (object-means o n m (and-left (validObject o n) (validObjects os n) v), objects-mean os n m (and-right (validObject o n) (validObjects os n) v))

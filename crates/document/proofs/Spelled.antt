@@ -1,0 +1,49 @@
+-- A text is taken as what it spells.
+use mathlib.Core.Path.{_≡_, refl, ap, sym, subst, _∙_}
+use mathlib.Core.List.{List}
+use Prim.Native.Nat.{ℕ, _≤_}
+use lib.ListN.{length}
+use Rattle.json.specs.Tree.{Tree}
+use Rattle.moving.specs.Read.{treeOf}
+use Rattle.json.specs.Grammar.{Text}
+use Rattle.spelling.specs.Depth.{depth}
+use Rattle.spelling.proofs.Spells as J
+use Rattle.document.specs.Posology.{Posology}
+use Rattle.document.specs.Visit.{Left, done, visit}
+use Rattle.document.specs.Valid.{Valid, Fits}
+use Rattle.document.specs.Spells.{Spells, Means}
+use Rattle.document.specs.Answer.{taken, read, textAtMost}
+use Rattle.document.proofs.Texts.{Taken, read-taken, taken-read}
+use Rattle.document.proofs.Accepts.{taken-means, means-taken}
+use Rattle.document.proofs.Utf8Texts.{text-utf8}
+use Rattle.document.proofs.OneMeaning.{means-one}
+use Rattle.document.proofs.Reorder.{visit-reordered}
+use Rattle.document.proofs.Moves.{reordered-depth}
+use Rattle.document.specs.Same.{Reordered}
+
+pub accepted-spells : (purpose room : ℕ) (text : List ℕ) (p : Posology) → read purpose room text ≡ taken p → (length text ≤ textAtMost) × Valid purpose p × Spells text p × Fits room p
+accepted-spells purpose room text p e =
+    let t = read-taken purpose room text p e in
+    let j = J.sound (t .walked) in
+    let m = taken-means (treeOf text) (text-utf8 (j .0)) purpose room p (t .left) (t .is) in
+    (t .short, (t .for-use, m .1), (treeOf text, j .0, j .3, m .0), m .2)
+
+pub spelled-accepted : (purpose room : ℕ) (text : List ℕ) (p : Posology) → length text ≤ textAtMost → Valid purpose p → Spells text p → Fits room p → read purpose room text ≡ taken p
+spelled-accepted purpose room text p short v s f =
+    let c = J.complete (s .1) (s .2) in
+    let k = means-taken (s .0) purpose room p (s .3) (v .1) f in
+    taken-read purpose room text p (record { for-use = v .0; short = short; rest = c .0; walked = c .3; left = k .0; is = ap (λ (t : Tree). visit purpose room t) (c .4) ∙ k .1 })
+
+pub one-posology : (text : List ℕ) (p q : Posology) → Spells text p → Spells text q → p ≡ q
+one-posology text p q a b = means-one (a .0) p q (a .3) (subst (λ (t : Tree). Means t q) (sym (J.one-tree (a .1) (b .1))) (b .3))
+
+-- A text whose tree is a reordered one.
+pub reordered-taken : (purpose room : ℕ) {s s′ : List ℕ} {t t′ : Tree} (p : Posology) → Text t s → Text t′ s′ → Reordered t t′ → length s′ ≤ textAtMost → read purpose room s ≡ taken p → read purpose room s′ ≡ taken p
+reordered-taken purpose room {s} {s′} {t} {t′} p a b r h e =
+    let k = read-taken purpose room s p e in
+    let j = J.sound (k .walked) in
+    let same : treeOf s ≡ t = J.one-tree (j .0) a in
+    let shallow : depth t′ ≤ 20 = subst (λ (n : ℕ). n ≤ 20) (ap depth same ∙ reordered-depth r) (j .3) in
+    let c = J.complete b shallow in
+    let v : visit purpose room t′ ≡ done p (k .left) = visit-reordered r purpose room (subst (λ (u : Tree). visit purpose room u ≡ done p (k .left)) same (k .is)) in
+    taken-read purpose room s′ p (record { for-use = k .for-use; short = h; rest = c .0; walked = c .3; left = k .left; is = ap (λ (u : Tree). visit purpose room u) (c .4) ∙ v })

@@ -1,0 +1,87 @@
+-- What is UTF-8 by RFC 3629's syntax passes the test.
+use Prim.Native.Nat.{ℕ, suc, _<_, _≤_}
+use mathlib.Core.Path.{_≡_, refl}
+use mathlib.Core.List.{List, [], _∷_}
+use mathlib.Core.Bool.{Bool, true, false, _&&_}
+use mathlib.Core.Option.{Option, none, some}
+use native.Mathlib.Omega.{arith}
+use borrow.Author.Tests.{lt-ltb, le-ltb}
+use Rattle.json.specs.Rows.{Rows, look}
+use Rattle.json.specs.Byte.{within}
+use Rattle.json.specs.Tree.{Tree, object, list, string, number, bool, null, Members, noMember, member, Elements, noElement, element}
+use Rattle.json.specs.Grammar as G
+use Rattle.spelling.specs.Utf8.{Utf8}
+use Rattle.spelling.specs.Utf8 as U
+use Rattle.spelling.proofs.Tables.{each}
+use Rattle.spelling.proofs.Encoded.{chars-utf8}
+use Rattle.document.specs.Utf8.{Within, from, tail, followRows, goOn, wellFormed, isUtf8}
+use Rattle.document.proofs.Good.{and-both}
+use Rattle.document.proofs.Sound.{Utf8Tree, Utf8Members, Utf8Elements}
+
+pub is-within : (lo hi b : ℕ) → lo ≤ b → b < hi → within lo hi b ≡ true
+unfolding within look
+is-within lo hi b p q = rw (le-ltb b lo p, lt-ltb b hi q)
+
+abbrev Goes : List ℕ → Option (List Within) → Type 0
+Goes s o = goOn o (λ ws. wellFormed s ws) ≡ true
+
+pub utf8-test : {s : List ℕ} → Utf8 s → isUtf8 s ≡ true
+unfolding isUtf8 wellFormed
+utf8-test U.none = refl
+utf8-test (U.one {b = b} {s = s} h0 u) =
+    each (Goes (s)) 0 b followRows (omega arith)
+    (λ l g. utf8-test u, (λ l g. absurd (omega arith), (λ l g. absurd (omega arith), (λ l g. absurd (omega arith), (λ l g. absurd (omega arith), (λ l g. absurd (omega arith), (λ l g. absurd (omega arith), (λ l g. absurd (omega arith), (λ l g. absurd (omega arith), (λ l g. absurd (omega arith), λ l. absurd (omega arith)))))))))))
+utf8-test (U.two {b = b} {c = c} {s = s} h0 h1 u) =
+    each (Goes (c ∷ s)) 0 b followRows (omega arith)
+    (λ l g. absurd (omega arith), (λ l g. absurd (omega arith), (λ l g. and-both (is-within 0x80 0xc0 c (omega arith) (omega arith)) (utf8-test u), (λ l g. absurd (omega arith), (λ l g. absurd (omega arith), (λ l g. absurd (omega arith), (λ l g. absurd (omega arith), (λ l g. absurd (omega arith), (λ l g. absurd (omega arith), (λ l g. absurd (omega arith), λ l. absurd (omega arith)))))))))))
+utf8-test (U.threeE0 {b = b} {c = c} {d = d} {s = s} h0 h1 h2 u) =
+    each (Goes (c ∷ d ∷ s)) 0 b followRows (omega arith)
+    (λ l g. absurd (omega arith), (λ l g. absurd (omega arith), (λ l g. absurd (omega arith), (λ l g. and-both (is-within 0xa0 0xc0 c (omega arith) (omega arith)) (and-both (is-within 0x80 0xc0 d (omega arith) (omega arith)) (utf8-test u)), (λ l g. absurd (omega arith), (λ l g. absurd (omega arith), (λ l g. absurd (omega arith), (λ l g. absurd (omega arith), (λ l g. absurd (omega arith), (λ l g. absurd (omega arith), λ l. absurd (omega arith)))))))))))
+utf8-test (U.threeE1 {b = b} {c = c} {d = d} {s = s} h0 h1 h2 u) =
+    each (Goes (c ∷ d ∷ s)) 0 b followRows (omega arith)
+    (λ l g. absurd (omega arith), (λ l g. absurd (omega arith), (λ l g. absurd (omega arith), (λ l g. absurd (omega arith), (λ l g. and-both (is-within 0x80 0xc0 c (omega arith) (omega arith)) (and-both (is-within 0x80 0xc0 d (omega arith) (omega arith)) (utf8-test u)), (λ l g. absurd (omega arith), (λ l g. absurd (omega arith), (λ l g. absurd (omega arith), (λ l g. absurd (omega arith), (λ l g. absurd (omega arith), λ l. absurd (omega arith)))))))))))
+utf8-test (U.threeED {b = b} {c = c} {d = d} {s = s} h0 h1 h2 u) =
+    each (Goes (c ∷ d ∷ s)) 0 b followRows (omega arith)
+    (λ l g. absurd (omega arith), (λ l g. absurd (omega arith), (λ l g. absurd (omega arith), (λ l g. absurd (omega arith), (λ l g. absurd (omega arith), (λ l g. and-both (is-within 0x80 0xa0 c (omega arith) (omega arith)) (and-both (is-within 0x80 0xc0 d (omega arith) (omega arith)) (utf8-test u)), (λ l g. absurd (omega arith), (λ l g. absurd (omega arith), (λ l g. absurd (omega arith), (λ l g. absurd (omega arith), λ l. absurd (omega arith)))))))))))
+utf8-test (U.threeEE {b = b} {c = c} {d = d} {s = s} h0 h1 h2 u) =
+    each (Goes (c ∷ d ∷ s)) 0 b followRows (omega arith)
+    (λ l g. absurd (omega arith), (λ l g. absurd (omega arith), (λ l g. absurd (omega arith), (λ l g. absurd (omega arith), (λ l g. absurd (omega arith), (λ l g. absurd (omega arith), (λ l g. and-both (is-within 0x80 0xc0 c (omega arith) (omega arith)) (and-both (is-within 0x80 0xc0 d (omega arith) (omega arith)) (utf8-test u)), (λ l g. absurd (omega arith), (λ l g. absurd (omega arith), (λ l g. absurd (omega arith), λ l. absurd (omega arith)))))))))))
+utf8-test (U.fourF0 {b = b} {c = c} {d = d} {e = e} {s = s} h0 h1 h2 h3 u) =
+    each (Goes (c ∷ d ∷ e ∷ s)) 0 b followRows (omega arith)
+    (λ l g. absurd (omega arith), (λ l g. absurd (omega arith), (λ l g. absurd (omega arith), (λ l g. absurd (omega arith), (λ l g. absurd (omega arith), (λ l g. absurd (omega arith), (λ l g. absurd (omega arith), (λ l g. and-both (is-within 0x90 0xc0 c (omega arith) (omega arith)) (and-both (is-within 0x80 0xc0 d (omega arith) (omega arith)) (and-both (is-within 0x80 0xc0 e (omega arith) (omega arith)) (utf8-test u))), (λ l g. absurd (omega arith), (λ l g. absurd (omega arith), λ l. absurd (omega arith)))))))))))
+utf8-test (U.fourF1 {b = b} {c = c} {d = d} {e = e} {s = s} h0 h1 h2 h3 u) =
+    each (Goes (c ∷ d ∷ e ∷ s)) 0 b followRows (omega arith)
+    (λ l g. absurd (omega arith), (λ l g. absurd (omega arith), (λ l g. absurd (omega arith), (λ l g. absurd (omega arith), (λ l g. absurd (omega arith), (λ l g. absurd (omega arith), (λ l g. absurd (omega arith), (λ l g. absurd (omega arith), (λ l g. and-both (is-within 0x80 0xc0 c (omega arith) (omega arith)) (and-both (is-within 0x80 0xc0 d (omega arith) (omega arith)) (and-both (is-within 0x80 0xc0 e (omega arith) (omega arith)) (utf8-test u))), (λ l g. absurd (omega arith), λ l. absurd (omega arith)))))))))))
+utf8-test (U.fourF4 {b = b} {c = c} {d = d} {e = e} {s = s} h0 h1 h2 h3 u) =
+    each (Goes (c ∷ d ∷ e ∷ s)) 0 b followRows (omega arith)
+    (λ l g. absurd (omega arith), (λ l g. absurd (omega arith), (λ l g. absurd (omega arith), (λ l g. absurd (omega arith), (λ l g. absurd (omega arith), (λ l g. absurd (omega arith), (λ l g. absurd (omega arith), (λ l g. absurd (omega arith), (λ l g. absurd (omega arith), (λ l g. and-both (is-within 0x80 0x90 c (omega arith) (omega arith)) (and-both (is-within 0x80 0xc0 d (omega arith) (omega arith)) (and-both (is-within 0x80 0xc0 e (omega arith) (omega arith)) (utf8-test u))), λ l. absurd (omega arith)))))))))))
+
+-- Every string of a text's tree is UTF-8.
+mutual
+  pub value-utf8 : {t : Tree} {s r : List ℕ} → G.Value t s r → Utf8Tree t
+  value-utf8 (G.anEmptyObject b) = tt
+  value-utf8 (G.anObject b n) = named-utf8 n
+  value-utf8 (G.anEmptyList b) = tt
+  value-utf8 (G.aList b n) = listed-utf8 n
+  value-utf8 (G.aString c) = utf8-test (chars-utf8 c)
+  value-utf8 (G.aNumber d) = tt
+  value-utf8 G.aTrue = tt
+  value-utf8 G.aFalse = tt
+  value-utf8 G.aNull = tt
+
+  listed-utf8 : {ts : Elements} {s r : List ℕ} → G.Listed ts s r → Utf8Elements ts
+  listed-utf8 (G.first v b n) = (value-utf8 v, behind-utf8 n)
+
+  behind-utf8 : {ts : Elements} {s r : List ℕ} → G.Behind ts s r → Utf8Elements ts
+  behind-utf8 G.bracket = tt
+  behind-utf8 (G.nextElement b n) = listed-utf8 n
+
+  named-utf8 : {ms : Members} {s r : List ℕ} → G.Named ms s r → Utf8Members ms
+  named-utf8 (G.name c a b v d n) = (value-utf8 v, follows-utf8 n)
+
+  follows-utf8 : {ms : Members} {s r : List ℕ} → G.Follows ms s r → Utf8Members ms
+  follows-utf8 G.brace = tt
+  follows-utf8 (G.nextMember b n) = named-utf8 n
+
+pub text-utf8 : {t : Tree} {s : List ℕ} → G.Text t s → Utf8Tree t
+text-utf8 (G.text a v b) = value-utf8 v

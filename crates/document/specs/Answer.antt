@@ -1,0 +1,133 @@
+-- Document 01, "Answers by number": the answer to some bytes for a use and a room, as one function, and what it leaves in the lent buffers.
+use mathlib.Core.Path.{_≡_}
+use mathlib.Core.List.{List, [], _∷_, _++_}
+use mathlib.Core.Bool.{Bool, true, false, cond, _||_}
+use Prim.Native.Nat.{ℕ, _-_}
+use lib.Dec.{eqb, leb, ltb}
+use lib.ListN.{length, drop}
+use Rattle.json.specs.Rows.{choose}
+use Rattle.json.specs.Byte.{blanked}
+use Rattle.json.specs.Tree.{Place, placeIn, Tree}
+use Rattle.json.specs.Walk.{Walked, end, refused2, refused3, firstObject, oneObject, walk}
+use Rattle.moving.specs.Read.{treeOf}
+use Rattle.document.specs.Posology.{Posology}
+use Rattle.document.specs.Visit.{Left, Outcome, done, refuse, visit}
+use Rattle.document.specs.Valid.{isUse, roomOf, strings}
+use Rattle.document.specs.Table.{tableOf, emptyTable}
+use Rattle.document.specs.declared.table.Table.{Table}
+use Rattle.document.specs.declared.table.Answer.{Answer}
+use Rattle.document.specs.declared.table.Answer.the-variants as A
+use Rattle.document.specs.declared.table.Reading.{Reading}
+use Rattle.document.specs.declared.table.NextAnswer.{NextAnswer}
+use Rattle.document.specs.declared.table.NextAnswer.the-variants as N
+use Rattle.document.specs.declared.table.NextReading.{NextReading}
+
+abbrev pub textAtMost : ℕ
+textAtMost = 32768
+
+-- What a text comes to.
+pub data Read : Type 0 where
+  taken : Posology → Read
+  refused : ℕ → ℕ → Read  -- number and place
+
+abbrev pub visited : List ℕ → Outcome Posology → Read
+visited start (done p l) = taken p
+visited start (refuse n p) = refused n (placeIn start p)
+
+-- The object that was walked, read: places count from the start of all that was given.
+abbrev pub readWalked : ℕ → ℕ → List ℕ → Read
+readWalked purpose room text = visited text (visit purpose room (treeOf text))
+
+abbrev pub afterWalk : ℕ → ℕ → List ℕ → Walked → Read
+afterWalk purpose room text (end r) = readWalked purpose room text
+afterWalk purpose room text (refused2 p) = refused 2 (placeIn text p)
+afterWalk purpose room text (refused3 p) = refused 3 (placeIn text p)
+
+-- "Order: 17; 1; then the whole text for 2 and 3 .. Then objects in visiting order."
+unfoldable pub read : ℕ → ℕ → List ℕ → Read
+unfolding visit treeOf oneObject
+read purpose room text =
+    choose (isUse purpose) (λ _.
+    choose (leb (length text) textAtMost) (λ _. afterWalk purpose room text (oneObject text)) λ _.
+    refused 1 textAtMost) λ _.
+    refused 17 0
+
+-- What the first posology of a run comes to.
+pub data ReadNext : Type 0 where
+  takenTo : Posology → ℕ → ReadNext  -- the place behind its last byte
+  blankTo : ℕ → ReadNext  -- only blanks remain: the run's length
+  refusedAt : ℕ → ℕ → ReadNext
+
+abbrev pub upTo : ℕ → Read → ReadNext
+upTo e (taken p) = takenTo p e
+upTo e (refused n place) = refusedAt n place
+
+-- "If none ends in the first 32,768 bytes, 2 or 3 is given if met there, else 1 when the run is longer, else 2 at the length."
+abbrev pub notEnded : ℕ → List ℕ → ℕ → ReadNext
+notEnded n run place = cond (leb (length run) textAtMost || ltb place textAtMost) (refusedAt n place) (refusedAt 1 textAtMost)
+
+abbrev pub endsAt : ℕ → ℕ → List ℕ → ℕ → ReadNext
+endsAt purpose room run e = choose (leb e textAtMost) (λ _. upTo e (readWalked purpose room run)) λ _. refusedAt 1 textAtMost
+
+abbrev pub nextWalked : ℕ → ℕ → List ℕ → Walked → ReadNext
+nextWalked purpose room run (end r) = endsAt purpose room run (placeIn run r)
+nextWalked purpose room run (refused2 p) = notEnded 2 run (placeIn run p)
+nextWalked purpose room run (refused3 p) = notEnded 3 run (placeIn run p)
+
+-- "A run of nothing but blanks .. gets the answer that only blanks remain .. Otherwise a run takes the shortest beginning, leading blanks
+-- included, that is such a text; what follows isn't looked at."
+abbrev pub nextBegun : ℕ → ℕ → List ℕ → List ℕ → ReadNext
+nextBegun purpose room run [] = blankTo (length run)
+nextBegun purpose room run (b ∷ s) = nextWalked purpose room run (firstObject run)
+
+unfoldable pub readNext : ℕ → ℕ → List ℕ → ReadNext
+unfolding visit treeOf walk blanked
+readNext purpose room run =
+    choose (isUse purpose) (λ _. nextBegun purpose room run (blanked run)) λ _. refusedAt 17 0
+
+-- What a call answers, and what it leaves in the lent text buffer: a refusal, or only blanks, leaves it as lent and answers an empty table.
+abbrev pub laid : List ℕ → List ℕ → List ℕ
+laid bytes buffer = bytes ++ drop (length bytes) buffer
+
+abbrev pub reading : Read → Reading
+reading (taken p) = record { answer = A.Taken; table = tableOf p }
+reading (refused n place) = record { answer = A.Refused n place; table = emptyTable }
+
+abbrev pub bufferAfter : Read → List ℕ → List ℕ
+bufferAfter (taken p) buffer = laid (strings p) buffer
+bufferAfter (refused n place) buffer = buffer
+
+abbrev pub nextReading : ReadNext → NextReading
+nextReading (takenTo p e) = record { answer = N.Taken e; table = tableOf p }
+nextReading (blankTo n) = record { answer = N.Blank n; table = emptyTable }
+nextReading (refusedAt n place) = record { answer = N.Refused n place; table = emptyTable }
+
+abbrev pub nextBufferAfter : ReadNext → List ℕ → List ℕ
+nextBufferAfter (takenTo p e) buffer = laid (strings p) buffer
+nextBufferAfter (blankTo n) buffer = buffer
+nextBufferAfter (refusedAt n place) buffer = buffer
+
+-- The promise of reading: result and buffer, for every text, use and buffer.
+pub record Reads (purpose : ℕ) (text before : List ℕ) (r : Reading) (after : List ℕ) : Type 0 where
+  pub result : r ≡ reading (read purpose (roomOf (length before)) text)
+  pub left : after ≡ bufferAfter (read purpose (roomOf (length before)) text) before
+
+pub record ReadsNext (purpose : ℕ) (run before : List ℕ) (r : NextReading) (after : List ℕ) : Type 0 where
+  pub result : r ≡ nextReading (readNext purpose (roomOf (length before)) run)
+  pub left : after ≡ nextBufferAfter (readNext purpose (roomOf (length before)) run) before
+
+-- For each answer that is an enum, the document's number and values; an acceptance has none.
+pub data Values : Type 0 where
+  accepted : Values
+  ends : ℕ → Values
+  blanksOnly : ℕ → Values
+  number : ℕ → ℕ → Values
+
+abbrev pub answerValues : Answer → Values
+answerValues A.Taken = accepted
+answerValues (A.Refused n place) = number n place
+
+abbrev pub nextValues : NextAnswer → Values
+nextValues (N.Taken e) = ends e
+nextValues (N.Blank n) = blanksOnly n
+nextValues (N.Refused n place) = number n place

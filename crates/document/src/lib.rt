@@ -1,0 +1,2 @@
+// Document 01: its definitions (specs/), the demands proved over them (proofs/), and the types of the table.
+pub mod table;
