@@ -158,9 +158,9 @@ pub record Opens (types : ℕ) (text : List ℕ) (at : ℕ) (o : Opened) (es : L
   pub inside : o .refused ≡ false → getD (o .slots) 0 0 ≤ length text
   pub opened : o .refused ≡ false → (f : Family) → typesOf f ≡ types → (l : Left)
       → members f (drop at text) es l
-        ≡ guard (mayStand f (o .kind)) 10 (drop (getD (o .slots) 0 0) text)
-          (guard (mayOpen f (o .kind)) 14 (drop (getD (o .slots) 0 0) text)
-          (body f (o .kind) (bytes "t" ∷ []) (drop at text) es l))
+      ≡ guard (mayStand f (o .kind)) 10 (drop (getD (o .slots) 0 0) text)
+      (guard (mayOpen f (o .kind)) 14 (drop (getD (o .slots) 0 0) text)
+      (body f (o .kind) (bytes "t" ∷ []) (drop at text) es l))
 
 abbrev pub OpensTyped : ℕ → List ℕ → ℕ → Opened → Type 0
 OpensTyped types text at o = (p : Place) (ms : Members) → At text at (object p ms) → Opens types text at o (entriesOf ms)

@@ -1,13 +1,30 @@
 // Details and sequences (document 01, "Objects": Daily to Sequence, PosologySequence, Pause).
 // Reading a detail calls reading a sequence and back; the sequences still allowed are the number that falls.
 use crate::field;
-use crate::field::{Field, Found, Worded};
+use crate::field::Field;
+use crate::field::Found;
+use crate::field::Worded;
 use crate::names;
-use crate::names::{Unknown, CY_DU, CY_DU_U, DS, DU, DU_U, PO, SOS, T, TDO, TDPC, TEXT};
+use crate::names::CY_DU;
+use crate::names::CY_DU_U;
+use crate::names::DS;
+use crate::names::DU;
+use crate::names::DU_U;
+use crate::names::PO;
+use crate::names::SOS;
+use crate::names::T;
+use crate::names::TDO;
+use crate::names::TDPC;
+use crate::names::TEXT;
+use crate::names::Unknown;
 use crate::opened;
 use crate::opened::Opened;
 use crate::rows;
-use crate::rows::{up, up_found, up_worded, Used, Visit};
+use crate::rows::Used;
+use crate::rows::Visit;
+use crate::rows::up;
+use crate::rows::up_found;
+use crate::rows::up_worded;
 use crate::timed;
 ghost use mathlib.Core.Path.{_≡_};
 ghost use Prim.Native.Nat.{ℕ, suc, _≤_, _<_};
@@ -18,11 +35,17 @@ ghost use Rattle.posology.specs.Room.{KeptIn};
 ghost use Rattle.posology.specs.Fours.{ReadsFour};
 
 const DAILY: [usize; 2] = [T, DS];
+
 const FREE_TEXT: [usize; 2] = [T, TEXT];
+
 const SINGLE: [usize; 2] = [T, TDO];
+
 const CYCLIC: [usize; 5] = [T, CY_DU_U, CY_DU, TDO, TDPC];
+
 const SEQUENCE: [usize; 2] = [T, SOS];
+
 const POSOLOGY_SEQUENCE: [usize; 4] = [T, DU, DU_U, PO];
+
 const PAUSE: [usize; 3] = [T, DU, DU_U];
 
 // The four decimals of the list at `at`, which has four elements.
@@ -88,8 +111,20 @@ fn free_text(text: &[u8], at: usize, o: Opened, room: usize, used: Used, words: 
     let Worded::Is(quote, n) = f else {
         return up_worded(f);
     };
-    rows::put(words, used.records, 2, 0, start as u64, n as u64, quote as u64, 0);
-    Visit::Done(Used { records: used.records + 1, text: start + n })
+    rows::put(
+        words,
+        used.records,
+        2,
+        0,
+        start as u64,
+        n as u64,
+        quote as u64,
+        0,
+    );
+    Visit::Done(Used {
+        records: used.records + 1,
+        text: start + n,
+    })
 }
 
 fn single(text: &[u8], at: usize, o: Opened, used: Used, words: &mut [u64]) -> Visit
@@ -101,12 +136,31 @@ fn single(text: &[u8], at: usize, o: Opened, used: Used, words: &mut [u64]) -> V
     if let Unknown::At(q) = names::unknown_name(text, at, o.members, slots, &SINGLE) {
         return Visit::Refused(5, q);
     }
-    let r = timed::read_timed(text, at, slots[TDO], timed::UNDER_SINGLE, rows::one_more(used), words);
+    let r = timed::read_timed(
+        text,
+        at,
+        slots[TDO],
+        timed::UNDER_SINGLE,
+        rows::one_more(used),
+        words,
+    );
     let Visit::Done(done) = r else {
         return r;
     };
     // A timed dosage has no string.
-    rows::above(words, used, Used { records: done.records, text: used.text }, 3, 0, 0, 0, 0)
+    rows::above(
+        words,
+        used,
+        Used {
+            records: done.records,
+            text: used.text,
+        },
+        3,
+        0,
+        0,
+        0,
+        0,
+    )
 }
 
 // The row of the types that may stand under Cyclic, by its unit: 5 is the week and 6 the month.
@@ -137,7 +191,14 @@ fn cyclic(text: &[u8], at: usize, o: Opened, used: Used, words: &mut [u64]) -> V
     let Field::Is(du) = f else {
         return up(f);
     };
-    let r = timed::read_timed(text, at, slots[TDO], under_cyclic(unit), rows::one_more(used), words);
+    let r = timed::read_timed(
+        text,
+        at,
+        slots[TDO],
+        under_cyclic(unit),
+        rows::one_more(used),
+        words,
+    );
     let Visit::Done(done) = r else {
         return r;
     };
@@ -145,7 +206,19 @@ fn cyclic(text: &[u8], at: usize, o: Opened, used: Used, words: &mut [u64]) -> V
     let Field::Is(per) = f else {
         return up(f);
     };
-    rows::above(words, used, Used { records: done.records, text: used.text }, 4, unit, du, per, 0)
+    rows::above(
+        words,
+        used,
+        Used {
+            records: done.records,
+            text: used.text,
+        },
+        4,
+        unit,
+        du,
+        per,
+        0,
+    )
 }
 
 fn pause(text: &[u8], at: usize, o: Opened, used: Used, words: &mut [u64]) -> Visit
@@ -168,7 +241,15 @@ fn pause(text: &[u8], at: usize, o: Opened, used: Used, words: &mut [u64]) -> Vi
     rows::leaf(words, used, 16, du, unit, 0, 0)
 }
 
-fn posology_sequence(text: &[u8], at: usize, o: Opened, left: usize, room: usize, used: Used, words: &mut [u64]) -> Visit
+fn posology_sequence(
+    text: &[u8],
+    at: usize,
+    o: Opened,
+    left: usize,
+    room: usize,
+    used: Used,
+    words: &mut [u64],
+) -> Visit
     requires { ⌜ Ready (now words) used × (used .records < 64) × (at ≤ length (now text)) × (used .text ≤ room) ⌝ }
     ensures { λ r. ⌜ VisitsBodyIn room (aSequenceObject left) 1 (ObjectIn (now (text .entry))) (now (text .entry)) at o used (now (words .entry)) r (now (words .exit)) ⌝ }
     ensures { λ r. ⌜ KeptIn room 1 (now (words .entry)) used r (now (words .exit)) ⌝ }
@@ -193,7 +274,14 @@ fn posology_sequence(text: &[u8], at: usize, o: Opened, left: usize, room: usize
 }
 
 // One object of a sequence.
-fn read_sequence_object(text: &[u8], at: usize, left: usize, room: usize, used: Used, words: &mut [u64]) -> Visit
+fn read_sequence_object(
+    text: &[u8],
+    at: usize,
+    left: usize,
+    room: usize,
+    used: Used,
+    words: &mut [u64],
+) -> Visit
     requires { ⌜ Ready (now words) used × (at ≤ length (now text)) × (used .text ≤ room) ⌝ }
     ensures { λ r. ⌜ VisitsObjectIn room (aSequenceObject left) (ObjectIn (now (text .entry))) (now (text .entry)) at used (now (words .entry)) r (now (words .exit)) ⌝ }
     ensures { λ r. ⌜ KeptIn room 1 (now (words .entry)) used r (now (words .exit)) ⌝ }
@@ -213,7 +301,14 @@ fn read_sequence_object(text: &[u8], at: usize, left: usize, room: usize, used: 
 }
 
 // The objects of the sequence's list at `at`.
-fn read_objects(text: &[u8], at: usize, left: usize, room: usize, first: Used, words: &mut [u64]) -> Visit
+fn read_objects(
+    text: &[u8],
+    at: usize,
+    left: usize,
+    room: usize,
+    first: Used,
+    words: &mut [u64],
+) -> Visit
     requires { ⌜ Ready (now words) first × (at ≤ length (now text)) × (first .text ≤ room) ⌝ }
     ensures { λ r. ⌜ VisitsEachIn room (aSequenceObject left) (ObjectsIn (now (text .entry))) (now (text .entry)) at first (now (words .entry)) r (now (words .exit)) ⌝ }
     ensures { λ r. ⌜ KeptIn room 0 (now (words .entry)) first r (now (words .exit)) ⌝ }
@@ -238,7 +333,15 @@ fn read_objects(text: &[u8], at: usize, left: usize, room: usize, first: Used, w
 }
 
 // A sequence: so many may still open inside it.
-fn read_sequence(text: &[u8], at: usize, o: Opened, inside: usize, room: usize, used: Used, words: &mut [u64]) -> Visit
+fn read_sequence(
+    text: &[u8],
+    at: usize,
+    o: Opened,
+    inside: usize,
+    room: usize,
+    used: Used,
+    words: &mut [u64],
+) -> Visit
     requires { ⌜ Ready (now words) used × (used .records < 64) × (at ≤ length (now text)) × (used .text ≤ room) ⌝ }
     ensures { λ r. ⌜ VisitsBodyIn room (aDetail (suc inside)) 5 (DetailAt (now (text .entry))) (now (text .entry)) at o used (now (words .entry)) r (now (words .exit)) ⌝ }
     ensures { λ r. ⌜ KeptIn room 1 (now (words .entry)) used r (now (words .exit)) ⌝ }
@@ -262,7 +365,14 @@ fn read_sequence(text: &[u8], at: usize, o: Opened, inside: usize, room: usize, 
 }
 
 // The detail by its type, which is 1 to 4.
-fn plain_detail(text: &[u8], at: usize, o: Opened, room: usize, used: Used, words: &mut [u64]) -> Visit
+fn plain_detail(
+    text: &[u8],
+    at: usize,
+    o: Opened,
+    room: usize,
+    used: Used,
+    words: &mut [u64],
+) -> Visit
     requires { ⌜ Ready (now words) used × (used .records < 64) × (at ≤ length (now text)) × (used .text ≤ room) ⌝ }
     ensures { λ r. ⌜ (1 ≤ o .kind → o .kind ≤ 4 → (n : ℕ) → VisitsBodyIn room (aDetail n) (o .kind) (DetailAt (now (text .entry))) (now (text .entry)) at o used (now (words .entry)) r (now (words .exit))) ⌝ }
     ensures { λ r. ⌜ KeptIn room 1 (now (words .entry)) used r (now (words .exit)) ⌝ }
@@ -277,7 +387,14 @@ fn plain_detail(text: &[u8], at: usize, o: Opened, room: usize, used: Used, word
 }
 
 // The detail at `at`: so many sequences may still open.
-fn visit_detail(text: &[u8], at: usize, left: usize, room: usize, used: Used, words: &mut [u64]) -> Visit
+fn visit_detail(
+    text: &[u8],
+    at: usize,
+    left: usize,
+    room: usize,
+    used: Used,
+    words: &mut [u64],
+) -> Visit
     requires { ⌜ Ready (now words) used × (at ≤ length (now text)) × (used .text ≤ room) ⌝ }
     ensures { λ r. ⌜ VisitsObjectIn room (aDetail left) (DetailAt (now (text .entry))) (now (text .entry)) at used (now (words .entry)) r (now (words .exit)) ⌝ }
     ensures { λ r. ⌜ KeptIn room 1 (now (words .entry)) used r (now (words .exit)) ⌝ }
@@ -303,7 +420,15 @@ fn visit_detail(text: &[u8], at: usize, left: usize, room: usize, used: Used, wo
 }
 
 // The detail that must stand at v in the object at `brace`.
-pub(crate) fn read_detail(text: &[u8], brace: usize, v: usize, left: usize, room: usize, used: Used, words: &mut [u64]) -> Visit
+pub(crate) fn read_detail(
+    text: &[u8],
+    brace: usize,
+    v: usize,
+    left: usize,
+    room: usize,
+    used: Used,
+    words: &mut [u64],
+) -> Visit
     requires { ⌜ Ready (now words) used × (brace ≤ length (now text)) × (used .text ≤ room) ⌝ }
     ensures { λ r. ⌜ VisitsNeededIn room (aDetail left) (DetailAt (now (text .entry))) (now (text .entry)) brace v used (now (words .entry)) r (now (words .exit)) ⌝ }
     ensures { λ r. ⌜ KeptIn room 1 (now (words .entry)) used r (now (words .exit)) ⌝ }
