@@ -1,0 +1,198 @@
+// Runs the reader over outside vectors on standard input, a line each: `read` or `run`, the use, the text room, and the bytes in hexadecimal.
+// Answers `refused NUMBER PLACE`, `blank LENGTH`, or `ok`, for a run the end, then the number of records and the strings in hexadecimal.
+use document::table::Answer;
+use document::table::NextAnswer;
+use scan::byte;
+
+// Of a line: the word that it is in, whether it is of a run, its numbers, its bytes so far, and the digit before the next one.
+struct Line {
+    word: u64,
+    run: bool,
+    purpose: u64,
+    room: usize,
+    bytes: usize,
+    half: bool,
+    high: u64,
+}
+
+fn fresh() -> Line {
+    Line {
+        word: 0,
+        run: false,
+        purpose: 0,
+        room: 0,
+        bytes: 0,
+        half: false,
+        high: 0,
+    }
+}
+
+fn say(word: &[u8], n: u64) {
+    io::write_all(1, word);
+    io::print_decimal(1, n);
+}
+
+// Bytes in hexadecimal and a line feed; `-` for none.
+fn say_hex(bytes: &[u8]) {
+    if bytes.len() == 0 {
+        io::write_all(1, b" -\n");
+        return;
+    }
+    io::write_all(1, b" ");
+    let mut i = 0;
+    while i < bytes.len() {
+        io::print_hex(1, byte::wide(bytes[i]), 2);
+        i += 1;
+    }
+    io::write_all(1, b"\n");
+}
+
+fn say_taken(count: usize, text: usize, strings: &[u8]) {
+    say(b" ", count as u64);
+    if text <= strings.len() {
+        say_hex(&strings[..text]);
+    }
+}
+
+fn say_refused(number: u8, place: usize) {
+    say(b"refused ", number as u64);
+    say(b" ", place as u64);
+    io::write_all(1, b"\n");
+}
+
+fn answer_text(text: &[u8], purpose: u64, strings: &mut [u8]) {
+    let r = posology::read(text, purpose, strings);
+    let t = r.table;
+    let a = r.answer;
+    match a {
+        Answer::Taken => {
+            io::write_all(1, b"ok");
+            say_taken(t.count, t.text, strings);
+        }
+        Answer::Refused { number, place } => say_refused(number, place),
+    }
+}
+
+fn answer_run(run: &[u8], purpose: u64, strings: &mut [u8]) {
+    let r = posology::read_next(run, purpose, strings);
+    let t = r.table;
+    let a = r.answer;
+    match a {
+        NextAnswer::Taken { end } => {
+            say(b"ok ", end as u64);
+            say_taken(t.count, t.text, strings);
+        }
+        NextAnswer::Blank { length } => {
+            say(b"blank ", length as u64);
+            io::write_all(1, b"\n");
+        }
+        NextAnswer::Refused { number, place } => say_refused(number, place),
+    }
+}
+
+fn answer(line: Line, text: &[u8], strings: &mut [u8]) {
+    let n = line.bytes;
+    let room = line.room;
+    if text.len() < n {
+        return;
+    }
+    if strings.len() < room {
+        return;
+    }
+    if line.run {
+        answer_run(&text[..n], line.purpose, &mut strings[..room]);
+    } else {
+        answer_text(&text[..n], line.purpose, &mut strings[..room]);
+    }
+}
+
+fn ten_more(n: u64, b: u8) -> u64 {
+    n % 100000000000000000 * 10 + byte::digit_of(b) % 10
+}
+
+// A character of the first three words. A minus sign makes the use a number that none is.
+fn with_word(line: Line, b: u8) -> Line {
+    let mut next = line;
+    if b == b' ' {
+        next.word = line.word % 3 + 1;
+        return next;
+    }
+    if line.word == 0 {
+        if b == b'u' {
+            next.run = true;
+        }
+        return next;
+    }
+    if line.word == 1 {
+        next.purpose = if b == b'-' {
+            90
+        } else {
+            ten_more(line.purpose, b)
+        };
+        return next;
+    }
+    next.room = (ten_more(line.room as u64, b) % 1000000) as usize;
+    next
+}
+
+// A character of the bytes.
+fn with_digit(line: Line, b: u8, text: &mut [u8]) -> Line {
+    let mut next = line;
+    if b == b'-' {
+        return next;
+    }
+    if !line.half {
+        next.half = true;
+        next.high = byte::digit_of(b);
+        return next;
+    }
+    let n = line.bytes;
+    if n < text.len() {
+        text[n] = (line.high % 16 * 16 + byte::digit_of(b)) as u8;
+        next.bytes = n + 1;
+        next.half = false;
+    }
+    next
+}
+
+fn with(line: Line, b: u8, text: &mut [u8], strings: &mut [u8]) -> Line {
+    if b == b'\n' {
+        answer(line, text, strings);
+        return fresh();
+    }
+    if line.word < 3 {
+        return with_word(line, b);
+    }
+    with_digit(line, b, text)
+}
+
+fn through(chunk: &[u8], start: Line, text: &mut [u8], strings: &mut [u8]) -> Line {
+    let mut line = start;
+    let mut i = 0;
+    while i < chunk.len() {
+        line = with(line, chunk[i], text, strings);
+        i += 1;
+    }
+    line
+}
+
+// A thousand chunks are more than any input here has.
+fn run(chunk: &mut [u8], text: &mut [u8], strings: &mut [u8]) {
+    let mut line = fresh();
+    let mut left: usize = 1000;
+    while 0 < left {
+        let n = io::read_full(0, chunk);
+        if n == 0 {
+            return;
+        }
+        line = through(&chunk[..n], line, text, strings);
+        left -= 1;
+    }
+}
+
+fn main() {
+    let mut chunk = io::large_buffer();
+    let mut text = io::large_buffer();
+    let mut strings = io::large_buffer();
+    run(&mut chunk, &mut text, &mut strings);
+}
