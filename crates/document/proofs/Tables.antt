@@ -29,7 +29,7 @@ same-refl : (s : List ℕ) → same s s ≡ true
 same-refl [] = refl
 same-refl (b ∷ s) = and-both (eq-eqb b b refl) (same-refl s)
 
-same-equal : (s t : List ℕ) → same s t ≡ true → s ≡ t
+pub same-equal : (s t : List ℕ) → same s t ≡ true → s ≡ t
 same-equal [] [] h = refl
 same-equal [] (c ∷ t) h = absurd (false≢true h)
 same-equal (b ∷ s) [] h = absurd (false≢true h)
@@ -43,7 +43,7 @@ is-own-table purpose p behind v f =
     and-both (and-both (and-both v (le-leb (length (strings p)) greatestRoom f)) (same-refl (tableWords (tableOf p))))
     (ap (same (strings p)) (take-at (strings p) behind (length (strings p)) refl) ∙ same-refl (strings p))
 
-own-readable : (purpose : ℕ) (p : Posology) (behind : List ℕ) → valid purpose p ≡ true → Fits greatestRoom p → readable purpose (tableOf p) (strings p ++ behind) ≡ true
+pub own-readable : (purpose : ℕ) (p : Posology) (behind : List ℕ) → valid purpose p ≡ true → Fits greatestRoom p → readable purpose (tableOf p) (strings p ++ behind) ≡ true
 unfolding readable
 own-readable purpose p behind v f = ap (isTableOf purpose (tableOf p) (strings p ++ behind)) (untabled purpose p behind v) ∙ is-own-table purpose p behind v f
 

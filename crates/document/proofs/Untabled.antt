@@ -64,7 +64,7 @@ timed-length (P.interval d du u) k = omega arith
 mutual
   unfolding detailRows
 
-  detail-rows : (d : Detail) (at : ℕ) (k : List Record) → detailRows d at k ≡ detailRows d at [] ++ k
+  pub detail-rows : (d : Detail) (at : ℕ) (k : List Record) → detailRows d at k ≡ detailRows d at [] ++ k
   detail-rows (P.daily a b c d) at k = refl
   detail-rows (P.freeText cs) at k = refl
   detail-rows (P.single td) at k = under (timed-rows td k)
@@ -85,7 +85,7 @@ mutual
 mutual
   unfolding detailRows detailRecords
 
-  detail-length : (d : Detail) (at : ℕ) (k : List Record) → length (detailRows d at k) ≡ detailRecords d + length k
+  pub detail-length : (d : Detail) (at : ℕ) (k : List Record) → length (detailRows d at k) ≡ detailRecords d + length k
   detail-length (P.daily a b c d) at k = omega arith
   detail-length (P.freeText cs) at k = omega arith
   detail-length (P.single td) at k = let e = timed-length td k in omega arith
@@ -104,13 +104,13 @@ mutual
       omega arith
 
 -- Unused records fill the table.
-filled-is : (n : ℕ) (rs : List Record) → length rs ≤ n → filled n rs ≡ rs ++ replicate (n - length rs) noRecord
+pub filled-is : (n : ℕ) (rs : List Record) → length rs ≤ n → filled n rs ≡ rs ++ replicate (n - length rs) noRecord
 filled-is n [] h = let e : n ≡ n - 0 = omega arith in ap (λ (m : ℕ). replicate m noRecord) e
 filled-is zero (r ∷ rs) h = absurd (omega arith)
 filled-is (suc n) (r ∷ rs) h = let e : n - length rs ≡ suc n - suc (length rs) = omega arith in under (filled-is n rs (omega arith) ∙ ap (λ (m : ℕ). rs ++ replicate m noRecord) e)
 
 -- The strings, one behind the other.
-abbrev bytesOf : Option (List ℕ) → List ℕ
+abbrev pub bytesOf : Option (List ℕ) → List ℕ
 bytesOf none = []
 bytesOf (some cs) = cs
 
@@ -118,11 +118,11 @@ given-append : (u : Option (List ℕ)) (k b : List ℕ) → given u k ++ b ≡ b
 given-append none k b = refl
 given-append (some cs) k b = ap (λ (s : List ℕ). s ++ b) (joined-append cs k) ∙ append-assoc cs k b
 
-length-of : (u : Option (List ℕ)) → length (bytesOf u) ≡ lengthOf u
+pub length-of : (u : Option (List ℕ)) → length (bytesOf u) ≡ lengthOf u
 length-of none = refl
 length-of (some cs) = refl
 
-strings-append : (p : Posology) (b : List ℕ) → strings p ++ b ≡ detailStrings (p .po) [] ++ (bytesOf (p .unit) ++ (bytesOf (p .applInstr) ++ (bytesOf (p .roa) ++ (bytesOf (p .moa) ++ b))))
+pub strings-append : (p : Posology) (b : List ℕ) → strings p ++ b ≡ detailStrings (p .po) [] ++ (bytesOf (p .unit) ++ (bytesOf (p .applInstr) ++ (bytesOf (p .roa) ++ (bytesOf (p .moa) ++ b))))
 unfolding strings
 strings-append p b =
     ap (λ (s : List ℕ). s ++ b) (detail-append (p .po) (given (p .unit) (given (p .applInstr) (given (p .roa) (given (p .moa) [])))))
@@ -151,13 +151,13 @@ meal-back (some m) v =
     let h : 1 ≤ m = leb-true 1 m (and-left (leb 1 m) (leb m mealCodes) v) in
     ap (λ (b : Bool). cond b none (some m)) (ne-eqb m 0 (λ e. omega arith))
 
-date-back : (d : Option P.Date) → dateOf (dateCell d) ≡ d
+pub date-back : (d : Option P.Date) → dateOf (dateCell d) ≡ d
 date-back none = refl
 date-back (some (P.bare d)) = refl
 date-back (some (P.moment d s (P.east n))) = refl
 date-back (some (P.moment d s (P.west n))) = refl
 
-unit-text : (purpose : ℕ) (u : Option (List ℕ)) → isUnitFor purpose u ≡ true → ifGiven isText u ≡ true
+pub unit-text : (purpose : ℕ) (u : Option (List ℕ)) → isUnitFor purpose u ≡ true → ifGiven isText u ≡ true
 unit-text purpose none v = refl
 unit-text purpose (some u) v = v
 

@@ -1,7 +1,10 @@
 // Runs the reader over outside vectors on standard input, a line each: `read` or `run`, the use, the text room, and the bytes in hexadecimal.
-// Answers `refused NUMBER PLACE`, `blank LENGTH`, or `ok`, for a run the end, then the number of records and the strings in hexadecimal.
+// Answers `refused NUMBER PLACE`, `blank LENGTH`, or `ok`, for a run the end, then the number of records, the plain text and the strings in hexadecimal;
+// and says so where the plain text does not read back to itself.
 use document::table::Answer;
 use document::table::NextAnswer;
+use document::table::Table;
+use document::table::Writing;
 use scan::byte;
 
 // Of a line: the word that it is in, whether it is of a run, its numbers, its bytes so far, and the digit before the next one.
@@ -32,10 +35,10 @@ fn say(word: &[u8], n: u64) {
     io::print_decimal(1, n);
 }
 
-// Bytes in hexadecimal and a line feed; `-` for none.
+// Bytes in hexadecimal; `-` for none.
 fn say_hex(bytes: &[u8]) {
     if bytes.len() == 0 {
-        io::write_all(1, b" -\n");
+        io::write_all(1, b" -");
         return;
     }
     io::write_all(1, b" ");
@@ -44,14 +47,66 @@ fn say_hex(bytes: &[u8]) {
         io::print_hex(1, byte::wide(bytes[i]), 2);
         i += 1;
     }
-    io::write_all(1, b"\n");
 }
 
-fn say_taken(count: usize, text: usize, strings: &[u8]) {
-    say(b" ", count as u64);
-    if text <= strings.len() {
-        say_hex(&strings[..text]);
+// So many bytes, or all where there are fewer.
+fn first(bytes: &[u8], n: usize) -> &[u8] {
+    if bytes.len() < n {
+        return bytes;
     }
+    &bytes[..n]
+}
+
+fn same(a: &[u8], b: &[u8]) -> bool {
+    if a.len() != b.len() {
+        return false;
+    }
+    let mut i = 0;
+    while i < a.len() {
+        if a[i] != b[i] {
+            return false;
+        }
+        i += 1;
+    }
+    true
+}
+
+// Whether reading a plain text and writing what was read gives it again.
+fn comes_back(plain: &[u8], purpose: u64) -> bool {
+    let mut strings = [0u8; 2048];
+    let mut again = io::large_buffer();
+    let r = posology::read(plain, purpose, &mut strings);
+    let t = r.table;
+    let w = writer::write(t, &strings, purpose, &mut again);
+    match w {
+        Writing::Written { length } => same(plain, first(&again, length)),
+        Writing::Refused {
+            number: _,
+            place: _,
+        } => false,
+    }
+}
+
+fn say_plain(t: Table, purpose: u64, strings: &[u8]) {
+    let mut out = io::large_buffer();
+    let w = writer::write(t, strings, purpose, &mut out);
+    match w {
+        Writing::Written { length } => {
+            let plain = first(&out, length);
+            say_hex(plain);
+            if !comes_back(plain, purpose) {
+                io::write_all(1, b" does not read back");
+            }
+        }
+        Writing::Refused { number, place: _ } => say(b" unwritten ", number as u64),
+    }
+}
+
+fn say_taken(t: Table, purpose: u64, strings: &[u8]) {
+    say(b" ", t.count as u64);
+    say_plain(t, purpose, strings);
+    say_hex(first(strings, t.text));
+    io::write_all(1, b"\n");
 }
 
 fn say_refused(number: u8, place: usize) {
@@ -67,7 +122,7 @@ fn answer_text(text: &[u8], purpose: u64, strings: &mut [u8]) {
     match a {
         Answer::Taken => {
             io::write_all(1, b"ok");
-            say_taken(t.count, t.text, strings);
+            say_taken(t, purpose, strings);
         }
         Answer::Refused { number, place } => say_refused(number, place),
     }
@@ -80,7 +135,7 @@ fn answer_run(run: &[u8], purpose: u64, strings: &mut [u8]) {
     match a {
         NextAnswer::Taken { end } => {
             say(b"ok ", end as u64);
-            say_taken(t.count, t.text, strings);
+            say_taken(t, purpose, strings);
         }
         NextAnswer::Blank { length } => {
             say(b"blank ", length as u64);

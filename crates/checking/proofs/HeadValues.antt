@@ -1,0 +1,88 @@
+-- The dates and the meal of a head, and those of a value.
+use mathlib.Core.Path.{_≡_, refl, ap, sym, _∙_}
+use mathlib.Core.List.{[]}
+use mathlib.Core.Bool.{Bool, true, false, cond}
+use mathlib.Core.Option.{Option, none, some, Option·getD}
+use Prim.Native.Nat.{ℕ, _≤_}
+use native.Mathlib.Omega.{arith}
+use lib.Dec.{eqb, leb}
+use lib.ListN.{length}
+use borrow.Author.Tests.{le-leb, leb-true, eqb-true, eqb-false}
+use Rattle.document.specs.Posology.{Posology}
+use Rattle.document.specs.Date.{isDate, inOrder}
+use Rattle.document.specs.Schema.{mealCodes, sequencesInside}
+use Rattle.document.specs.Visit.{recordsAtMost}
+use Rattle.document.specs.Valid.{isText, isMeal, ifGiven, isUnitFor, validDetail, validFields, valid, detailRecords, detailStrings}
+use Rattle.document.specs.Table.{dateCell, headOf}
+use Rattle.document.specs.Untable.{dateOf, mealOf}
+use Rattle.document.specs.declared.table.Text.{Text}
+use Rattle.document.specs.declared.table.Date.{Date}
+use Rattle.document.specs.declared.table.Date.the-variants as D
+use Rattle.document.specs.declared.table.Head.{Head}
+use Rattle.document.proofs.Parts.{all-nine}
+use Rattle.document.proofs.Untabled.{date-back}
+use Rattle.checking.proofs.DaySums.{left-of, right-of}
+use Rattle.checking.proofs.Lies.{both}
+use Rattle.checking.proofs.Pieces.{unit-given}
+use Rattle.checking.specs.Readable.{HeadRight}
+
+pub cell-date : (d : Date) → dateCell (dateOf d) ≡ d
+cell-date D.Absent = refl
+cell-date (D.Bare y m d) = refl
+cell-date (D.Moment y m d s true zone) = refl
+cell-date (D.Moment y m d s false zone) = refl
+
+pub cell-meal : (m : ℕ) → Option·getD (mealOf m) 0 ≡ m
+cell-meal m = go (eqb m 0) refl
+  where
+    go : (b : Bool) → eqb m 0 ≡ b → Option·getD (cond {A = Option ℕ} b none (some m)) 0 ≡ m
+    go true e = sym (eqb-true m 0 e)
+    go false e = refl
+
+pub valid-meal : (m : ℕ) → m ≤ 6 → ifGiven isMeal (mealOf m) ≡ true
+valid-meal m h = go (eqb m 0) refl
+  where
+    go : (b : Bool) → eqb m 0 ≡ b → ifGiven isMeal (cond {A = Option ℕ} b none (some m)) ≡ true
+    go true e = refl
+    go false e = let f = eqb-false m 0 e in both (le-leb 1 m (omega arith)) (le-leb m 6 h)
+
+meal-most : (o : Option ℕ) → ifGiven isMeal o ≡ true → Option·getD o 0 ≤ 6
+meal-most none h = omega arith
+meal-most (some m) h = leb-true m mealCodes (right-of (leb 1 m) (leb m mealCodes) h)
+
+abbrev headWith : Date → Date → Bool → ℕ → Text → Text → Text → Text → Head
+headWith from to reserve meal unit instructions roa moa = record { from = from; to = to; reserve = reserve; meal = meal; unit = unit; instructions = instructions; roa = roa; moa = moa }
+
+pub same-head : (h : Head) {from to : Date} {meal : ℕ} {unit instructions roa moa : Text} → from ≡ h .from → to ≡ h .to → meal ≡ h .meal → unit ≡ h .unit → instructions ≡ h .instructions → roa ≡ h .roa → moa ≡ h .moa → headWith from to (h .reserve) meal unit instructions roa moa ≡ h
+same-head h a b c d e f g = rw (a, b, c, d, e, f, g)
+
+pub record Parts (purpose : ℕ) (p : Posology) : Type 0 where
+  pub from : ifGiven isDate (p .dtFrom) ≡ true
+  pub to : ifGiven isDate (p .dtTo) ≡ true
+  pub detail : validDetail (p .po) 3 ≡ true
+  pub meal : ifGiven isMeal (p .relMeal) ≡ true
+  pub unit : isUnitFor purpose (p .unit) ≡ true
+  pub instructions : ifGiven isText (p .applInstr) ≡ true
+  pub roa : ifGiven isText (p .roa) ≡ true
+  pub moa : ifGiven isText (p .moa) ≡ true
+  pub ordered : inOrder (p .dtFrom) (p .dtTo) ≡ true
+
+pub valid-parts : (purpose : ℕ) (p : Posology) → valid purpose p ≡ true → Parts purpose p
+unfolding valid validFields
+valid-parts purpose p v =
+    let n = all-nine (ifGiven isDate (p .dtFrom)) (ifGiven isDate (p .dtTo)) (validDetail (p .po) sequencesInside) (ifGiven isMeal (p .relMeal)) (isUnitFor purpose (p .unit)) (ifGiven isText (p .applInstr)) (ifGiven isText (p .roa)) (ifGiven isText (p .moa)) (inOrder (p .dtFrom) (p .dtTo)) (left-of (validFields purpose p) (leb (detailRecords (p .po)) recordsAtMost) v) in
+    record { from = n .0; to = n .1; detail = n .2; meal = n .3; unit = n .4; instructions = n .5; roa = n .6; moa = n .7; ordered = n .8 }
+
+pub parts-valid : (purpose : ℕ) (p : Posology) → Parts purpose p → detailRecords (p .po) ≤ 64 → valid purpose p ≡ true
+unfolding valid validFields
+parts-valid purpose p n few = both (both (both (both (both (both (both (both (both (n .from) (n .to)) (n .detail)) (n .meal)) (n .unit)) (n .instructions)) (n .roa)) (n .moa)) (n .ordered)) (le-leb (detailRecords (p .po)) 64 few)
+
+pub head-right : (purpose : ℕ) (p : Posology) → Parts purpose p → HeadRight (headOf p) purpose
+unfolding headOf
+head-right purpose p n = record {
+  from = ap (ifGiven isDate) (date-back (p .dtFrom)) ∙ n .from;
+  to = ap (ifGiven isDate) (date-back (p .dtTo)) ∙ n .to;
+  ordered = ap (λ d. inOrder d (dateOf (dateCell (p .dtTo)))) (date-back (p .dtFrom)) ∙ ap (inOrder (p .dtFrom)) (date-back (p .dtTo)) ∙ n .ordered;
+  meal = meal-most (p .relMeal) (n .meal);
+  unit = unit-given purpose (length (detailStrings (p .po) [])) (p .unit) (n .unit);
+}

@@ -1,0 +1,172 @@
+-- What is checked of a table is what makes it readable.
+use mathlib.Core.Path.{_≡_, refl, ap, sym, subst, _∙_}
+use mathlib.Core.List.{List, [], _∷_, _++_}
+use mathlib.Core.Bool.{Bool, true, false}
+use Prim.Native.Nat.{ℕ, _+_, _*_, _-_, _≤_}
+use native.Mathlib.Omega.{arith}
+use lib.ListN.{length, drop, replicate, length-append, length-replicate}
+use Rattle.document.specs.Posology.{Posology}
+use Rattle.document.specs.Valid.{valid, detailRecords, detailStrings, strings}
+use Rattle.document.specs.Table.{noRecord, lengthOf, detailRows, headOf, tableOf}
+use Rattle.document.specs.Words.{allWords, rows, headWords, tableWords}
+use Rattle.document.specs.Untable.{dateOf, mealOf}
+use Rattle.document.specs.Write.{readable}
+use Rattle.document.specs.declared.table.Record.{Record}
+use Rattle.document.specs.declared.table.Head.{Head}
+use Rattle.document.specs.declared.table.Table.{Table}
+use Rattle.document.proofs.WordsBack.{words-one}
+use Rattle.document.proofs.Untables.{detail-append}
+use Rattle.document.proofs.Untabled.{bytesOf, length-of, strings-append, detail-rows, detail-length, unit-text}
+use Rattle.document.proofs.Tables.{own-readable}
+use Rattle.words.specs.Standing.{Lies}
+use Rattle.checking.proofs.LiesDetail.{DetailIs, detail-is}
+use Rattle.checking.proofs.FoundDetail.{detail-found}
+use Rattle.checking.proofs.Laid.{all-length, words-length, unused-zero, zeros-lie, lies-rows}
+use Rattle.checking.proofs.Stands.{records-of, readable-stands}
+use Rattle.checking.proofs.Pieces.{PieceIs, piece-is, piece-found, piece-behind, unit-for}
+use Rattle.checking.proofs.HeadValues.{cell-date, cell-meal, valid-meal, same-head, Parts, valid-parts, parts-valid, head-right}
+use Rattle.checking.specs.Checks.{Zeros}
+use Rattle.checking.specs.Readable.{PiecesAt, HeadRight, LaidAt}
+
+strings-length : (p : Posology) → length (strings p) ≡ length (detailStrings (p .po) []) + lengthOf (p .unit) + lengthOf (p .applInstr) + lengthOf (p .roa) + lengthOf (p .moa)
+strings-length p = omega (arith, simp length-append at (ap length (strings-append p [])), length-of (p .unit), length-of (p .applInstr), length-of (p .roa), length-of (p .moa))
+
+-- A value's table and strings are laid as the checks want them.
+module _ (purpose : ℕ) (p : Posology) (n : Parts purpose p) (buffer behind : List ℕ) where
+  pieces-found : (at : ℕ) → at ≡ length (detailStrings (p .po) []) → drop at buffer ≡ bytesOf (p .unit) ++ (bytesOf (p .applInstr) ++ (bytesOf (p .roa) ++ (bytesOf (p .moa) ++ behind))) → PiecesAt buffer (headOf p) at (length (strings p))
+  unfolding headOf
+  pieces-found at a e₀ =
+      let M = bytesOf (p .moa) ++ behind in
+      let R = bytesOf (p .roa) ++ M in
+      let I = bytesOf (p .applInstr) ++ R in
+      let D = length (detailStrings (p .po) []) in
+      let e : drop D buffer ≡ bytesOf (p .unit) ++ I = ap (λ x. drop x buffer) (sym a) ∙ e₀ in
+      let u₁ = D + lengthOf (p .unit) in
+      let u₂ = u₁ + lengthOf (p .applInstr) in
+      let u₃ = u₂ + lengthOf (p .roa) in
+      let e₁ : drop u₁ buffer ≡ I = piece-behind buffer (p .unit) D I e in
+      let e₂ : drop u₂ buffer ≡ R = piece-behind buffer (p .applInstr) u₁ R e₁ in
+      let e₃ : drop u₃ buffer ≡ M = piece-behind buffer (p .roa) u₂ M e₂ in
+      subst (λ x. PiecesAt buffer (headOf p) x (length (strings p))) (sym a)
+      (subst (PiecesAt buffer (headOf p) D) (sym (strings-length p))
+      (record {
+        u₁ = u₁;
+        u₂ = u₂;
+        u₃ = u₃;
+        unit = piece-found buffer (p .unit) D I (unit-text purpose (p .unit) (n .unit)) e;
+        instructions = piece-found buffer (p .applInstr) u₁ R (n .instructions) e₁;
+        roa = piece-found buffer (p .roa) u₂ M (n .roa) e₂;
+        moa = piece-found buffer (p .moa) u₃ behind (n .moa) e₃;
+      }))
+
+  laid-of : length (strings p) ≤ 2048 → detailRecords (p .po) ≤ 64 → buffer ≡ strings p ++ behind → Lies (rows (allWords (tableOf p .records))) 0 (allWords (detailRows (p .po) 0 [])) → LaidAt (rows (allWords (tableOf p .records))) buffer (headOf p) (detailRecords (p .po)) (length (strings p))
+  laid-of room few e l =
+      let ws = rows (allWords (tableOf p .records)) in
+      let rs = detailRows (p .po) 0 [] in
+      let rest = bytesOf (p .unit) ++ (bytesOf (p .applInstr) ++ (bytesOf (p .roa) ++ (bytesOf (p .moa) ++ behind))) in
+      let f = detail-found (p .po) 3 0 0 [] rest (n .detail) (omega arith) l (e ∙ strings-append p behind ∙ sym (detail-append (p .po) rest)) (omega arith) in
+      let s = f .sum [] in
+      let c = f .count in
+      let same : length rs * 6 ≡ detailRecords (p .po) * 6 = let k = detail-length (p .po) 0 [] in omega arith in
+      record {
+        room = room;
+        fits = few;
+        counted = omega arith;
+        taken = f .taken;
+        detail = f .at;
+        pieces = pieces-found (f .taken) (omega arith) (f .behind);
+        zeros = subst (Zeros ws) same (subst (λ x. Zeros (rows (allWords x)) (length rs * 6)) (sym (records-of p few)) (unused-zero rs (64 - length rs)));
+      }
+
+pub readable-laid : (purpose : ℕ) (t : Table) (ws buffer : List ℕ) → ws ≡ rows (allWords (t .records)) → length (t .records) ≡ 64 → readable purpose t buffer ≡ true → HeadRight (t .head) purpose × LaidAt ws buffer (t .head) (t .count) (t .text)
+unfolding tableOf
+readable-laid purpose t ws buffer e n r =
+    let s = readable-stands purpose t buffer n r in
+    let p = s .is in
+    let parts = valid-parts purpose p (s .valid) in
+    let rs = detailRows (p .po) 0 [] in
+    let lies : Lies (rows (allWords (tableOf p .records))) 0 (allWords rs) = subst (λ u. Lies (rows (allWords (u .records))) 0 (allWords rs)) (s .table) (s .lies) in
+    subst (λ x. HeadRight (t .head) purpose × LaidAt x buffer (t .head) (t .count) (t .text)) (sym e)
+    (subst (λ u. HeadRight (u .head) purpose × LaidAt (rows (allWords (u .records))) buffer (u .head) (u .count) (u .text)) (sym (s .table))
+    (head-right purpose p parts, laid-of purpose p parts buffer (s .behind) (s .fits) (s .few) (s .strings-first) lies))
+
+-- What is laid so is a value's table, with its strings.
+module _ (ws buffer : List ℕ) (h : Head) (taken u₁ u₂ u₃ text : ℕ) (d : DetailIs ws buffer 3 0 0 taken) (a : PieceIs buffer (h .unit) taken u₁) (b : PieceIs buffer (h .instructions) u₁ u₂) (c : PieceIs buffer (h .roa) u₂ u₃) (m : PieceIs buffer (h .moa) u₃ text) where
+  abbrev value : Posology
+  value = record { dtFrom = dateOf (h .from); dtTo = dateOf (h .to); inRes = h .reserve; po = d .value; relMeal = mealOf (h .meal); unit = a .value; applInstr = b .value; roa = c .value; moa = m .value }
+
+  value-parts : (purpose : ℕ) → HeadRight h purpose → Parts purpose value
+  value-parts purpose r = record {
+    from = r .from;
+    to = r .to;
+    detail = d .valid;
+    meal = valid-meal (h .meal) (r .meal);
+    unit = unit-for purpose (a .value) (a .valid) (λ f. omega (arith, r .unit f, a .len));
+    instructions = b .valid;
+    roa = c .valid;
+    moa = m .valid;
+    ordered = r .ordered;
+  }
+
+  value-head : headOf value ≡ h
+  unfolding headOf
+  value-head =
+      let D = length (detailStrings (d .value) []) in
+      let e₀ : D ≡ taken = omega (arith, d .taken []) in
+      let e₁ : D + lengthOf (a .value) ≡ u₁ = omega (arith, a .sum) in
+      let e₂ : D + lengthOf (a .value) + lengthOf (b .value) ≡ u₂ = omega (arith, b .sum) in
+      let e₃ : D + lengthOf (a .value) + lengthOf (b .value) + lengthOf (c .value) ≡ u₃ = omega (arith, c .sum) in
+      same-head h (cell-date (h .from)) (cell-date (h .to)) (cell-meal (h .meal)) (a .cell _ e₀) (b .cell _ e₁) (c .cell _ e₂) (m .cell _ e₃)
+
+  value-text : length (strings value) ≡ text
+  value-text = omega (arith, strings-length value, d .taken [], a .sum, b .sum, c .sum, m .sum)
+
+  value-strings : buffer ≡ strings value ++ drop text buffer
+  value-strings =
+      d .strings ∙ detail-append (d .value) (drop taken buffer)
+      ∙ ap (λ s. detailStrings (d .value) [] ++ s)
+      (a .bytes ∙ ap (λ s. bytesOf (a .value) ++ s)
+      (b .bytes ∙ ap (λ s. bytesOf (b .value) ++ s)
+      (c .bytes ∙ ap (λ s. bytesOf (c .value) ++ s) (m .bytes))))
+      ∙ sym (strings-append value (drop text buffer))
+
+  value-rows : detailRecords (d .value) ≤ 64 → length ws ≡ 384 → Zeros ws (detailRecords (d .value) * 6) → ws ≡ rows (allWords (tableOf value .records))
+  value-rows few n z =
+      let size = 64 - length (detailRows (d .value) 0 []) in
+      let k = replicate size noRecord in
+      let rs = detailRows (d .value) 0 k in
+      let count = detailRecords (d .value) in
+      let e : 64 ≡ count + size = omega (arith, detail-length (d .value) 0 []) in
+      let f : length (allWords rs) ≡ 64 = all-length rs ∙ detail-length (d .value) 0 k ∙ ap (λ x. count + x) (length-replicate size noRecord) ∙ sym e in
+      lies-rows ws (allWords rs) 0 (omega arith) (d .lies k (zeros-lie ws count size (0 + count) n z (omega arith) (omega arith)))
+      ∙ ap (λ x. rows (allWords x)) (detail-rows (d .value) 0 k ∙ sym (records-of value few))
+
+  value-table : (count : ℕ) (rs : List Record) → detailRecords (d .value) ≡ count → rows (allWords (tableOf value .records)) ≡ rows (allWords rs) → _≡_ {A = Table} (tableOf value) (record { head = h; count = count; text = text; records = rs })
+  unfolding tableOf tableWords
+  value-table count rs e f =
+      let own = rows (allWords (tableOf value .records)) in
+      words-one (tableOf value) (record { head = h; count = count; text = text; records = rs })
+      (ap (λ x. headWords x (detailRecords (d .value) ∷ length (strings value) ∷ own)) value-head
+      ∙ ap (λ x. headWords h (x ∷ length (strings value) ∷ own)) e
+      ∙ ap (λ x. headWords h (count ∷ x ∷ own)) value-text
+      ∙ ap (λ x. headWords h (count ∷ text ∷ x)) f)
+
+  value-readable : (purpose count : ℕ) (rs : List Record) → ws ≡ rows (allWords rs) → length rs ≡ 64 → HeadRight h purpose → detailRecords (d .value) ≡ count → count ≤ 64 → text ≤ 2048 → Zeros ws (count * 6) → readable purpose (record { head = h; count = count; text = text; records = rs }) buffer ≡ true
+  value-readable purpose count rs e n r f most room z =
+      let few : detailRecords (d .value) ≤ 64 = omega arith in
+      let size : length ws ≡ 384 = ap length e ∙ words-length rs ∙ ap (λ x. x * 6) n in
+      let same = sym (value-rows few size (subst (λ x. Zeros ws (x * 6)) (sym f) z)) ∙ e in
+      subst (λ x. readable purpose (record { head = h; count = count; text = text; records = rs }) x ≡ true) (sym value-strings)
+      (subst (λ x. readable purpose x (strings value ++ drop text buffer) ≡ true) (value-table count rs f same)
+      (own-readable purpose value (drop text buffer) (parts-valid purpose value (value-parts purpose r) few) (omega (arith, value-text))))
+
+pub laid-readable : (purpose : ℕ) (t : Table) (ws buffer : List ℕ) → ws ≡ rows (allWords (t .records)) → length (t .records) ≡ 64 → HeadRight (t .head) purpose → LaidAt ws buffer (t .head) (t .count) (t .text) → readable purpose t buffer ≡ true
+laid-readable purpose t ws buffer e n r l =
+    let q = l .pieces in
+    let d = detail-is (l .detail) in
+    value-readable ws buffer (t .head) (l .taken) (q .u₁) (q .u₂) (q .u₃) (t .text) d (piece-is (q .unit)) (piece-is (q .instructions)) (piece-is (q .roa)) (piece-is (q .moa))
+    purpose (t .count) (t .records) e n r (omega (arith, l .counted, d .count)) (l .fits) (l .room) (l .zeros)
+
+pub not-readable : (b : Bool) → (b ≡ true → ⊥) → false ≡ b
+not-readable true f = absurd (f refl)
+not-readable false f = refl

@@ -1,0 +1,3 @@
+pub mod Tails
+pub mod Checks
+pub mod Readable

@@ -1,0 +1,57 @@
+-- What the checks of a table tell: its head, its strings and its records.
+use mathlib.Core.Path.{_≡_}
+use mathlib.Core.List.{List}
+use mathlib.Core.Bool.{Bool, true, _&&_}
+use Prim.Native.Nat.{ℕ, _+_, _*_, _≤_}
+use Rattle.document.specs.Posology.{Day}
+use Rattle.document.specs.Date.{isDate, inOrder, isSecond, isZone}
+use Rattle.document.specs.Valid.{ifGiven}
+use Rattle.document.specs.Untable.{dateOf, zoneOf}
+use Rattle.document.specs.declared.table.Text.{Text}
+use Rattle.document.specs.declared.table.Date.{Date}
+use Rattle.document.specs.declared.table.Date.the-variants as D
+use Rattle.document.specs.declared.table.Head.{Head}
+use Rattle.words.specs.Standing.{belowAt}
+use Rattle.checking.specs.Checks.{StringAt, DetailAt, Zeros}
+
+abbrev pub dayOf : ℕ → ℕ → ℕ → Day
+dayOf y m d = record { year = y; month = m; day = d }
+
+abbrev pub momentIn : ℕ → Bool → ℕ → Bool
+momentIn s west zone = isSecond s && isZone (zoneOf west zone)
+
+-- The calendar date as a number, 0 where it is absent.
+abbrev pub writtenIn : Date → ℕ
+writtenIn D.Absent = 0
+writtenIn (D.Bare y m d) = (y * 100 + m) * 100 + d
+writtenIn (D.Moment y m d s west zone) = (y * 100 + m) * 100 + d
+
+-- A string of the head behind `text` bytes, with u taken after it: absent with start and length 0, or as any string.
+pub data PieceAt (buffer : List ℕ) (t : Text) (text u : ℕ) : Type 0 where
+  absent : t .len ≡ 0 → t .start ≡ 0 → u ≡ text → PieceAt buffer t text u
+  present : StringAt buffer text (t .start) (t .len) → u ≡ text + t .len → PieceAt buffer t text u
+
+pub record PiecesAt (buffer : List ℕ) (h : Head) (text u : ℕ) : Type 0 where
+  pub u₁ : ℕ
+  pub u₂ : ℕ
+  pub u₃ : ℕ
+  pub unit : PieceAt buffer (h .unit) text u₁
+  pub instructions : PieceAt buffer (h .instructions) u₁ u₂
+  pub roa : PieceAt buffer (h .roa) u₂ u₃
+  pub moa : PieceAt buffer (h .moa) u₃ u
+
+pub record HeadRight (h : Head) (purpose : ℕ) : Type 0 where
+  pub from : ifGiven isDate (dateOf (h .from)) ≡ true
+  pub to : ifGiven isDate (dateOf (h .to)) ≡ true
+  pub ordered : inOrder (dateOf (h .from)) (dateOf (h .to)) ≡ true
+  pub meal : h .meal ≤ 6
+  pub unit : (purpose ≡ 3 → ⊥) → 1 ≤ h .unit .len
+
+pub record LaidAt (ws buffer : List ℕ) (h : Head) (count text : ℕ) : Type 0 where
+  pub room : text ≤ 2048
+  pub fits : count ≤ 64
+  pub counted : count ≡ 1 + belowAt ws 0
+  pub taken : ℕ
+  pub detail : DetailAt ws buffer 3 0 0 taken
+  pub pieces : PiecesAt buffer h taken text
+  pub zeros : Zeros ws (count * 6)

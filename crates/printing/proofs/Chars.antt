@@ -1,0 +1,56 @@
+-- Strings byte by byte.
+use mathlib.Core.Path.{_≡_, refl}
+use mathlib.Core.List.{List, [], _∷_}
+use Prim.Native.Nat.{ℕ, _+_, _<_, _≤_}
+use native.Mathlib.Omega.{arith}
+use native.Mathlib.Decide.{decLt}
+use native.Mathlib.Numerals.{add-one}
+use lib.ListN.{length, drop, getD, drop-of-length-le}
+use lib.Seq.{drop-cons}
+use Rattle.json.proofs.Rows.{under, between, beyond}
+use Rattle.document.specs.Spell.{control, escaped, quoted, spell}
+use Rattle.document.specs.Plain.{textTree}
+use Rattle.document.proofs.Sizes.{escapedRows}
+
+pub one-more : (s : List ℕ) (i : ℕ) → i < length s → drop i s ≡ getD s i 0 ∷ drop (i + 1) s
+one-more s i h = rw (add-one, drop-cons s i 0)
+
+pub none-more : (s : List ℕ) (i : ℕ) → length s ≤ i → drop i s ≡ []
+none-more s i h = drop-of-length-le s h
+
+pub quoted-one : (s : List ℕ) (i : ℕ) (k : List ℕ) → i < length s → quoted (drop i s) k ≡ escaped (getD s i 0) (quoted (drop (i + 1) s) k)
+unfolding quoted
+quoted-one s i k h = rw (one-more s i h)
+
+pub quoted-none : (s : List ℕ) (i : ℕ) (k : List ℕ) → length s ≤ i → quoted (drop i s) k ≡ 34 ∷ k
+unfolding quoted
+quoted-none s i k h = rw (none-more s i h)
+
+pub spell-text : (s k : List ℕ) → 34 ∷ quoted s k ≡ spell (textTree s) k
+unfolding spell
+spell-text s k = refl
+
+-- Behind a \u go the bytes below 32 that have no letter.
+pub escaped-control : (b : ℕ) (k : List ℕ) → b < 32 → (b ≡ 8 → ⊥) → (b ≡ 9 → ⊥) → (b ≡ 10 → ⊥) → (b ≡ 12 → ⊥) → (b ≡ 13 → ⊥) → control b k ≡ escaped b k
+unfolding escaped
+escaped-control b k h n₁ n₂ n₃ n₄ n₅ =
+    let rows = escapedRows b k in
+    elim (decLt b 8) [
+      | yes l ↦ under 8 (List ℕ) b (control b k) rows l refl
+      | no g ↦ elim (decLt b 14) [
+        | yes l ↦ between 11 12 (List ℕ) b (control b k) rows (omega arith) (omega arith) refl
+        | no j ↦ between 14 32 (List ℕ) b (control b k) rows (omega arith) h refl
+      ]
+    ]
+
+pub escaped-itself : (b : ℕ) (k : List ℕ) → 32 ≤ b → (b ≡ 34 → ⊥) → (b ≡ 92 → ⊥) → b ∷ k ≡ escaped b k
+unfolding escaped
+escaped-itself b k h n₁ n₂ =
+    let rows = escapedRows b k in
+    elim (decLt b 34) [
+      | yes l ↦ between 32 34 (List ℕ) b (b ∷ k) rows h l refl
+      | no g ↦ elim (decLt b 92) [
+        | yes l ↦ between 35 92 (List ℕ) b (b ∷ k) rows (omega arith) l refl
+        | no j ↦ beyond 93 (List ℕ) b (b ∷ k) rows (omega arith) refl
+      ]
+    ]

@@ -1,0 +1,211 @@
+// A table's records as words, six each: tag, records below, four values (document's Words).
+use document::table::Dosage;
+use document::table::Kind;
+use document::table::Record;
+use document::table::Table;
+ghost use mathlib.Core.Path.{_≡_};
+ghost use mathlib.Core.List.{[], _∷_};
+ghost use Prim.Native.Nat.{_*_, _<_};
+ghost use lib.ListN.{length};
+ghost use lib.Seq.{sets};
+ghost use Rattle.document.specs.Words.{dosageWords, kindWords, allWords, row, rows};
+ghost use Rattle.words.specs.Laid.{over};
+
+pub struct Words {
+    pub tag: u64,
+    pub a: u64,
+    pub b: u64,
+    pub c: u64,
+    pub d: u64,
+}
+
+fn dosage_words(s: Dosage) -> Words
+    ensures { λ r. ⌜ over 0 r ≡ dosageWords 0 s ⌝ }
+{
+    match s {
+        Dosage::Simple { amount } => Words {
+            tag: 12,
+            a: amount,
+            b: 0,
+            c: 0,
+            d: 0,
+        },
+        Dosage::FromTo {
+            from,
+            to,
+            unit,
+            duration,
+        } => Words {
+            tag: 13,
+            a: from,
+            b: to,
+            c: unit as u64,
+            d: duration as u64,
+        },
+        Dosage::Range { min, max } => Words {
+            tag: 14,
+            a: min,
+            b: max,
+            c: 0,
+            d: 0,
+        },
+    }
+}
+
+fn kind_words(k: Kind) -> Words
+    ensures { λ r. ⌜ over 0 r ≡ kindWords 0 k ⌝ }
+{
+    match k {
+        Kind::None => Words {
+            tag: 0,
+            a: 0,
+            b: 0,
+            c: 0,
+            d: 0,
+        },
+        Kind::Daily {
+            morning,
+            noon,
+            evening,
+            night,
+        } => Words {
+            tag: 1,
+            a: morning,
+            b: noon,
+            c: evening,
+            d: night,
+        },
+        Kind::FreeText { text } => Words {
+            tag: 2,
+            a: text.start as u64,
+            b: text.len as u64,
+            c: 0,
+            d: 0,
+        },
+        Kind::Single => Words {
+            tag: 3,
+            a: 0,
+            b: 0,
+            c: 0,
+            d: 0,
+        },
+        Kind::Cyclic {
+            unit,
+            duration,
+            per_cycle,
+        } => Words {
+            tag: 4,
+            a: unit as u64,
+            b: duration as u64,
+            c: per_cycle as u64,
+            d: 0,
+        },
+        Kind::Sequence => Words {
+            tag: 5,
+            a: 0,
+            b: 0,
+            c: 0,
+            d: 0,
+        },
+        Kind::DosageOnly => Words {
+            tag: 6,
+            a: 0,
+            b: 0,
+            c: 0,
+            d: 0,
+        },
+        Kind::Times => Words {
+            tag: 7,
+            a: 0,
+            b: 0,
+            c: 0,
+            d: 0,
+        },
+        Kind::DaySegments => Words {
+            tag: 8,
+            a: 0,
+            b: 0,
+            c: 0,
+            d: 0,
+        },
+        Kind::WeekDays { days } => Words {
+            tag: 9,
+            a: days as u64,
+            b: 0,
+            c: 0,
+            d: 0,
+        },
+        Kind::DaysOfMonth { days } => Words {
+            tag: 10,
+            a: days as u64,
+            b: 0,
+            c: 0,
+            d: 0,
+        },
+        Kind::Interval { duration, unit } => Words {
+            tag: 11,
+            a: duration as u64,
+            b: unit as u64,
+            c: 0,
+            d: 0,
+        },
+        Kind::Dosage { dosage } => dosage_words(dosage),
+        Kind::PosologySequence { duration, unit } => Words {
+            tag: 15,
+            a: duration as u64,
+            b: unit as u64,
+            c: 0,
+            d: 0,
+        },
+        Kind::Pause { duration, unit } => Words {
+            tag: 16,
+            a: duration as u64,
+            b: unit as u64,
+            c: 0,
+            d: 0,
+        },
+        Kind::AtTime { second } => Words {
+            tag: 17,
+            a: second as u64,
+            b: 0,
+            c: 0,
+            d: 0,
+        },
+        Kind::InSegment { segment } => Words {
+            tag: 18,
+            a: segment as u64,
+            b: 0,
+            c: 0,
+            d: 0,
+        },
+    }
+}
+
+fn lay(out: &mut [u64], i: usize, below: usize, w: Words)
+    requires { ⌜ (i < 64) × (length (now out) ≡ 384) ⌝ }
+    ensures { λ _. ⌜ now (out .exit) ≡ sets (now (out .entry)) (i * 6) (row (over below w) []) ⌝ }
+{
+    let at = i * 6;
+    out[at] = w.tag;
+    out[at + 1] = below as u64;
+    out[at + 2] = w.a;
+    out[at + 3] = w.b;
+    out[at + 4] = w.c;
+    out[at + 5] = w.d;
+}
+
+// The words of the table's records, 384 of them.
+pub fn table_words(t: Table) -> [u64; 384]
+    ensures { λ r. ⌜ r ≡ rows (allWords (t .records)) ⌝ }
+{
+    let records = t.records;
+    let mut out = [0u64; 384];
+    let mut i = 0;
+    while i < 64 {
+        let r = records[i];
+        let k = r.kind;
+        lay(&mut out, i, r.below, kind_words(k));
+        i += 1;
+    }
+    out
+}

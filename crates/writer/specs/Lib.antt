@@ -1,0 +1,3 @@
+pub mod Prints
+pub mod Heads
+pub mod Fits
