@@ -25,10 +25,10 @@ use Rattle.document.specs.declared.table.Answer.the-variants as A
 use Rattle.document.specs.declared.table.Reading.{Reading}
 use Rattle.document.specs.declared.table.Table.{Table}
 use Rattle.document.proofs.Accepts.{taken-means}
-use Rattle.posology.specs.Visiting.{leftOf}
-use Rattle.posology.specs.Heads.{Holds, HeadDone, HeadReads, ReadsHead}
+use Rattle.visits.specs.Visiting.{leftOf}
+use Rattle.visits.specs.Heads.{Holds, HeadDone, HeadReads, ReadsHead}
 use Rattle.posology.specs.Reader.{Walked as WalkedText}
-use Rattle.posology.specs.declared.head.HeadRead.{HeadRead}
+use Rattle.visits.specs.declared.head.HeadRead.{HeadRead}
 use Rattle.posology.proofs.Standing.{Standing, visit-is}
 
 -- A place of the text, counted from its start.

@@ -17,8 +17,9 @@ use Rattle.document.specs.Table.{daySet, dosageRow, timesRows, segmentsRows, ti
 use Rattle.document.specs.Valid.{timedRecords, detailRecords, objectRecords, objectsRecords, joined, detailStrings, objectStrings, objectsStrings}
 use Rattle.document.specs.Words.{Words, words, recordWords, row, rows, allWords}
 use Rattle.posology.specs.Built.{laidRow, laidRows, laidPiece}
-use Rattle.posology.specs.Visiting.{DetailRows, ObjectRows, ObjectsRows}
-use Rattle.posology.specs.declared.head.Piece.{Piece}
+use Rattle.visits.specs.Visiting.{DetailRows, ObjectRows, ObjectsRows}
+use Rattle.visits.specs.declared.head.Piece.{Piece}
+use Rattle.visits.proofs.Strings.{joined-is, object-strings}
 
 -- One more, behind the others.
 pub laid-snoc : (text : List ℕ) (i : ℕ) (ws buffer : List ℕ) → laidRows text (suc i) ws buffer ≡ laidRow text (drop (i * 6) ws) (laidRows text i ws buffer)
@@ -28,32 +29,6 @@ laid-snoc text (suc i) ws buffer =
     let n : 6 + i * 6 ≡ suc i * 6 = omega arith in
     laid-snoc text i (drop 6 ws) (laidRow text ws buffer)
     ∙ ap (λ (v : List ℕ). laidRow text v (laidRows text i (drop 6 ws) (laidRow text ws buffer))) (drop-drop (i * 6) 6 ws ∙ ap (λ (k : ℕ). drop k ws) n)
-
-pub joined-is : (cs k : List ℕ) → joined cs k ≡ cs ++ k
-joined-is [] k = refl
-joined-is (c ∷ cs) k = ap (λ (l : List ℕ). c ∷ l) (joined-is cs k)
-
-mutual
-  unfolding detailStrings
-
-  pub detail-strings : (d : P.Detail) (k : List ℕ) → detailStrings d k ≡ detailStrings d [] ++ k
-  detail-strings (P.daily a b c d) k = refl
-  detail-strings (P.freeText cs) k = joined-is cs k ∙ ap (λ (l : List ℕ). l ++ k) (sym (append-nil cs) ∙ sym (joined-is cs []))
-  detail-strings (P.single td) k = refl
-  detail-strings (P.cyclic unit du td per) k = refl
-  detail-strings (P.sequence os) k = objects-strings os k
-
-  pub object-strings : (o : P.SequenceObject) (k : List ℕ) → objectStrings o k ≡ objectStrings o [] ++ k
-  object-strings (P.posologySequence du unit po) k = detail-strings po k
-  object-strings (P.pause du unit) k = refl
-
-  pub objects-strings : (os : P.SequenceObjects) (k : List ℕ) → objectsStrings os k ≡ objectsStrings os [] ++ k
-  objects-strings P.noObject k = refl
-  objects-strings (P.objectThen o os) k =
-      object-strings o (objectsStrings os k)
-      ∙ ap (λ (l : List ℕ). objectStrings o [] ++ l) (objects-strings os k)
-      ∙ sym (append-assoc (objectStrings o []) (objectsStrings os []) k)
-      ∙ ap (λ (l : List ℕ). l ++ k) (sym (object-strings o (objectsStrings os [])))
 
 pub sets-append : (xs ys l : List ℕ) (i : ℕ) → sets l i (xs ++ ys) ≡ sets (sets l i xs) (i + length xs) ys
 sets-append [] ys l i = ap (λ (k : ℕ). sets l k ys) (sym (add-zero i))

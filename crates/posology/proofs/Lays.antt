@@ -1,7 +1,7 @@
 -- The strings of a posology, laid from the words and the head's pieces.
 use Prim.Native.Nat.{ℕ, _+_, _≤_}
 use mathlib.Core.Path.{_≡_, refl, sym, ap, _∙_}
-use mathlib.Core.List.{List, [], _++_, append-assoc, append-nil}
+use mathlib.Core.List.{List, [], _++_, append-nil}
 use mathlib.Core.Option.{Option, none, some}
 use native.Mathlib.Nat.{add-zero, zero-add}
 use native.Mathlib.Omega.{arith}
@@ -14,38 +14,12 @@ use Rattle.document.specs.Table.{lengthOf}
 use Rattle.document.specs.Valid.{detailRecords, detailStrings, given, joined, strings}
 use Rattle.strings.specs.Strings.{buffered}
 use Rattle.posology.specs.Built.{laidRows, laidPiece}
-use Rattle.posology.specs.Heads.{PieceOf, Holds}
-use Rattle.posology.specs.declared.head.Piece.{Piece}
-use Rattle.posology.specs.declared.head.HeadRead.{HeadRead}
-use Rattle.posology.proofs.Laid.{joined-is, detail-strings, sets-append, buffered-fits, detail-laid, piece-lays, piece-passes}
+use Rattle.visits.specs.Heads.{PieceOf, Holds}
+use Rattle.visits.specs.declared.head.Piece.{Piece}
+use Rattle.visits.specs.declared.head.HeadRead.{HeadRead}
+use Rattle.visits.proofs.Strings.{joined-is, given-length, strings-parts}
+use Rattle.posology.proofs.Laid.{sets-append, buffered-fits, detail-laid, piece-lays, piece-passes}
 use Rattle.posology.proofs.Made.{words-split}
-
-given-is : (o : Option (List ℕ)) (k : List ℕ) → given o k ≡ given o [] ++ k
-given-is none k = refl
-given-is (some cs) k = joined-is cs k ∙ ap (λ (l : List ℕ). l ++ k) (sym (joined-is cs [] ∙ append-nil cs))
-
-pub given-length : (o : Option (List ℕ)) → length (given o []) ≡ lengthOf o
-given-length none = refl
-given-length (some cs) = ap length (joined-is cs [] ∙ append-nil cs)
-
--- The strings of a posology, one behind the other.
-pub strings-parts : (p : Posology) → strings p ≡ detailStrings (p .po) [] ++ given (p .unit) [] ++ given (p .applInstr) [] ++ given (p .roa) [] ++ given (p .moa) []
-unfolding strings
-strings-parts p =
-    let D = detailStrings (p .po) [] in
-    let U = given (p .unit) [] in
-    let I = given (p .applInstr) [] in
-    let M = given (p .moa) [] in
-    detail-strings (p .po) (given (p .unit) (given (p .applInstr) (given (p .roa) M)))
-    ∙ ap (λ (l : List ℕ). D ++ l)
-    (given-is (p .unit) (given (p .applInstr) (given (p .roa) M))
-    ∙ ap (λ (l : List ℕ). U ++ l) (given-is (p .applInstr) (given (p .roa) M) ∙ ap (λ (l : List ℕ). I ++ l) (given-is (p .roa) M)))
-    ∙ sym (simp append-assoc)
-
-pub strings-size : (p : Posology) → length (strings p) ≡ length (detailStrings (p .po) []) + lengthOf (p .unit) + lengthOf (p .applInstr) + lengthOf (p .roa) + lengthOf (p .moa)
-strings-size p =
-    ap length (strings-parts p)
-    ∙ simp (length-append, given-length (p .unit), given-length (p .applInstr), given-length (p .roa), given-length (p .moa))
 
 -- A piece behind the strings so far.
 piece-next : (text : List ℕ) (start : ℕ) (o : Option (List ℕ)) (p : Piece) (acc buffer : List ℕ) → PieceOf text start o p → start ≡ length acc → length (acc ++ given o []) ≤ length buffer

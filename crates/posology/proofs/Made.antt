@@ -16,10 +16,10 @@ use Rattle.document.specs.declared.table.Head.{Head}
 use Rattle.document.specs.declared.table.Record.{Record}
 use Rattle.document.specs.declared.table.Table.{Table}
 use Rattle.posology.specs.Built.{pieceCell, headCells, recordsOf}
-use Rattle.posology.specs.Heads.{PieceOf, Holds}
-use Rattle.posology.specs.declared.head.Piece.{Piece}
-use Rattle.posology.specs.declared.head.HeadRead.{HeadRead}
-use Rattle.posology.proofs.Carried.{first-of}
+use Rattle.visits.specs.Heads.{PieceOf, Holds}
+use Rattle.visits.specs.declared.head.Piece.{Piece}
+use Rattle.visits.specs.declared.head.HeadRead.{HeadRead}
+use Rattle.document.proofs.Good.{and-left}
 use Rattle.posology.proofs.Records.{records-length, filled-is}
 use Rattle.posology.proofs.Back.{detail-back}
 
@@ -37,7 +37,7 @@ detail-valid : (purpose : ℕ) (p : Posology) → valid purpose p ≡ true → v
 unfolding valid
 detail-valid purpose p h =
     third-of-nine (ifGiven isDate (p .dtFrom)) (ifGiven isDate (p .dtTo)) (validDetail (p .po) 3) (ifGiven isMeal (p .relMeal)) (isUnitFor purpose (p .unit)) (ifGiven isText (p .applInstr)) (ifGiven isText (p .roa)) (ifGiven isText (p .moa)) (inOrder (p .dtFrom) (p .dtTo))
-    (first-of (validFields purpose p) (leb (detailRecords (p .po)) 64) h)
+    (and-left (validFields purpose p) (leb (detailRecords (p .po)) 64) h)
 
 module _ (text : List ℕ) (purpose : ℕ) (p : Posology) (h : HeadRead) (words : List ℕ) (holds : Holds text p h words) where
   head-made : headCells h ≡ headOf p

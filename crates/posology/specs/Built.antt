@@ -12,8 +12,8 @@ use Rattle.document.specs.declared.table.Kind.the-variants as K
 use Rattle.document.specs.declared.table.Record.{Record}
 use Rattle.document.specs.declared.table.Head.{Head}
 use Rattle.document.specs.declared.table.Text.{Text}
-use Rattle.posology.specs.declared.head.Piece.{Piece}
-use Rattle.posology.specs.declared.head.HeadRead.{HeadRead}
+use Rattle.visits.specs.declared.head.Piece.{Piece}
+use Rattle.visits.specs.declared.head.HeadRead.{HeadRead}
 
 -- The kinds by their tags, in front of the last.
 abbrev pub kinds : ℕ → ℕ → ℕ → ℕ → List Kind

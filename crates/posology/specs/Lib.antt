@@ -1,16 +1,3 @@
-pub mod At
-pub mod Names
-pub mod Fields
-pub mod Dates
-pub mod Visiting
-pub mod Kept
-pub mod Room
-pub mod Fours
-pub mod Heads
 pub mod Reader
 pub mod Handing
-pub mod Reading
-pub mod DateParts
 pub mod Built
-pub mod HeadRows
-pub mod DaySets

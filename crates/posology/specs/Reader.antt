@@ -1,8 +1,7 @@
 -- A text that the walk took: its object stands behind the blanks at its start.
-use Prim.Native.Nat.{ℕ, _≤_}
+use Prim.Native.Nat.{ℕ}
 use mathlib.Core.Path.{_≡_}
 use mathlib.Core.List.{List}
-use lib.ListN.{length}
 use Rattle.json.specs.Tree.{Place}
 use Rattle.json.specs.Walk.{end, firstObject}
 

@@ -1,13 +1,13 @@
 // The table made of the words that were read, and the strings laid into the lent buffer: both after acceptance alone.
-use crate::head::HeadRead;
-use crate::head::Piece;
-use crate::rows::RECORDS;
 use document::table::Dosage;
 use document::table::Head;
 use document::table::Kind;
 use document::table::Record;
 use document::table::Table;
 use document::table::Text;
+use visits::head::HeadRead;
+use visits::head::Piece;
+use visits::rows::RECORDS;
 ghost use mathlib.Core.Path.{_≡_};
 ghost use mathlib.Core.List.{List};
 ghost use mathlib.Core.Bool.{true};
@@ -19,7 +19,7 @@ ghost use Rattle.document.specs.Valid.{valid, strings as stringsOf};
 ghost use Rattle.document.specs.Table.{tableOf, noRecord};
 ghost use Rattle.document.specs.Answer.{laid};
 ghost use Rattle.posology.specs.Built.{kindOf, recordOf, recordsOf, pieceCell, headCells, laidRows, laidPiece};
-ghost use Rattle.posology.specs.Heads.{Holds};
+ghost use Rattle.visits.specs.Heads.{Holds};
 
 fn dosage_of(tag: u64, a: u64, b: u64, c: u64, d: u64) -> Dosage
     requires { ⌜ (12 ≤ tag) × (tag < 15) ⌝ }

@@ -1,7 +1,5 @@
 // Reading one posology text (document 01, "What the part does" and "Answers by number").
 use crate::build;
-use crate::head;
-use crate::rows::RECORDS;
 use document::table::Answer;
 use document::table::Date;
 use document::table::Head;
@@ -10,6 +8,8 @@ use document::table::Reading;
 use document::table::Record;
 use document::table::Table;
 use document::table::Text;
+use visits::head;
+use visits::rows::RECORDS;
 use walk::End;
 ghost use mathlib.Core.Path.{_≡_};
 ghost use lib.ListN.{length};

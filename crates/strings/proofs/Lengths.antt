@@ -18,6 +18,7 @@ use Rattle.json.specs.declared.string.InString.{InString}
 use Rattle.json.specs.declared.string.InString.the-variants.{Plain, Escape, Unit, UnitD, Digit3, Digit2, Digit1, High2, High1, Slash, LetterU, SecondD, SecondC, Tail3, Tail2, Tail1, AfterE0, AfterEd, AfterF0, AfterF4}
 use Rattle.json.specs.declared.string.CharStep.{CharStep}
 use Rattle.json.specs.declared.string.CharStep.the-variants.{Goes, Closes, Refuses}
+use Rattle.strings.specs.Strings.{plainFrom}
 use Rattle.strings.proofs.Ahead.{byte-goes, byte-closes, byte-refuses}
 
 -- Bytes of an escape that were read, and may yet be given: the last digit gives up to four.
@@ -138,3 +139,6 @@ tail-short (b ∷ l) = omega arith
 pub decoded-short : (text : List ℕ) (q : ℕ) → length (decoded (drop q text)) ≤ length text
 unfolding decoded
 decoded-short text q = omega (arith, chars-short Plain 0 (tail (drop q text)), tail-short (drop q text), length-drop q text)
+
+pub from-short : (text : List ℕ) (at : ℕ) → length (plainFrom text at) ≤ length text
+from-short text at = omega (arith, chars-short Plain 0 (drop at text), length-drop at text)

@@ -4,3 +4,6 @@ pub mod Lengths
 pub mod Same
 pub mod Turns
 pub mod Ascii
+pub mod Runs
+pub mod Steps
+pub mod Pairs

@@ -3,13 +3,12 @@ use Prim.Native.Nat.{ℕ, suc, _+_, _-_, _<_, _≤_}
 use mathlib.Core.Path.{_≡_, refl, sym, ap, _∙_}
 use mathlib.Core.List.{List}
 use mathlib.Core.Bool.{Bool, true, false, not}
-use lib.ListN.{length, getD, drop, set, length-set}
+use lib.ListN.{length, getD, drop}
 use lib.Seq.{sets}
 use lib.Dec.{eqb}
-use native.Mathlib.Numerals.{add-one}
 use native.Mathlib.Omega.{arith}
 use borrow.Author.Tests.{le-leb, lt-leb}
-use Rattle.strings.specs.Strings.{same, plainFrom, ahead, Alike, Sound, Gives, laid, buffered}
+use Rattle.strings.specs.Strings.{same, plainFrom, ahead, Sound, Gives, laid, buffered}
 use Rattle.strings.specs.declared.Cursor.{Cursor}
 use Rattle.strings.specs.declared.NextByte.{NextByte}
 use Rattle.strings.specs.declared.Laid.the-variants.{Behind, NoRoom}
@@ -22,9 +21,9 @@ pub record Against (text name : List ℕ) (T : Bool) (c : Cursor) (k : ℕ) : Ty
   pub inside : k ≤ length name
   pub answer : same (ahead text c) (drop k name) ≡ T
 
-pub against-behind : {text name bytes : List ℕ} {at i : ℕ} {c : Cursor} → Alike text name at i → plainFrom text at ≡ bytes → ahead text c ≡ plainFrom text i → Sound c
-    → Against text name (same bytes name) c (i - at)
-against-behind a e f s = record { sound = s; inside = a .inside; answer = rw (f, ← e) (a .answer) }
+pub against-from : (text name : List ℕ) (i : ℕ) {k : ℕ} {c : Cursor} → k ≤ length name → ((t : List ℕ) → ahead t c ≡ plainFrom t i) × Sound c
+    → Against text name (same (plainFrom text i) (drop k name)) c k
+against-from text name i h e = record { sound = e .1; inside = h; answer = rw (e .0 text) }
 
 module _ {text name : List ℕ} {T : Bool} {c : Cursor} {k : ℕ} {r : NextByte} (g : Gives text c r) (i : Against text name T c k) where
   pub name-ends : not (r .some) ≡ true → eqb k (length name) ≡ T
@@ -46,6 +45,10 @@ pub record Beside (text : List ℕ) (T : Bool) (c d : Cursor) : Type 0 where
   pub other : Sound d
   pub answer : same (ahead text c) (ahead text d) ≡ T
 
+pub beside-both : {text : List ℕ} (p q : ℕ) {c d : Cursor} → ((t : List ℕ) → ahead t c ≡ plainFrom t p) × Sound c → ((t : List ℕ) → ahead t d ≡ plainFrom t q) × Sound d
+    → Beside text (same (plainFrom text p) (plainFrom text q)) c d
+beside-both {text} p q e f = record { sound = e .1; other = f .1; answer = rw (e .0 text, f .0 text) }
+
 module _ {text : List ℕ} {T : Bool} {c d : Cursor} {r q : NextByte} (g : Gives text c r) (f : Gives text d q) (i : Beside text T c d) where
   pub both-end : not (r .some) ≡ true → not (q .some) ≡ T
   both-end e = go (q .some) refl
@@ -63,21 +66,6 @@ module _ {text : List ℕ} {T : Bool} {c d : Cursor} {r q : NextByte} (g : Gives
 
     pub both-on : not (q .some) ≡ false → r .byte ≡ q .byte → Beside text T (r .cursor) (q .cursor)
     both-on u d = record { sound = g .sound; other = f .sound; answer = sym (same-goes _ _ _ _ d) ∙ rw (gives-one g e, gives-one f u) at (i .answer) }
-
--- ---- counted: n bytes are passed
-pub record Counts (text : List ℕ) (T : ℕ) (c : Cursor) (n : ℕ) : Type 0 where
-  pub sound : Sound c
-  pub answer : n + length (ahead text c) ≡ T
-
-pub counts-none : {text bytes : List ℕ} {c : Cursor} → Sound c → ahead text c ≡ bytes → Counts text (length bytes) c 0
-counts-none s e = record { sound = s; answer = omega (arith, ap length e) }
-
-module _ {text : List ℕ} {T : ℕ} {c : Cursor} {n : ℕ} {r : NextByte} (g : Gives text c r) (i : Counts text T c n) where
-  pub count-ends : not (r .some) ≡ true → n ≡ T
-  count-ends e = omega (arith, i .answer, ap length (gives-none g e))
-
-  pub count-on : not (r .some) ≡ false → Counts text T (r .cursor) (n + 1)
-  count-on e = record { sound = g .sound; answer = omega (arith, i .answer, ap length (gives-one g e)) }
 
 -- ---- the byte at the place k, of which i are passed
 pub record Seeks (text : List ℕ) (k T : ℕ) (c : Cursor) (i : ℕ) : Type 0 where
@@ -102,36 +90,7 @@ module _ {text : List ℕ} {k T : ℕ} {c : Cursor} {i : ℕ} {r : NextByte} (g 
         let z : k - i ≡ suc (k - (i + 1)) = omega arith in
         record { sound = g .sound; inside = omega arith; answer = rw (gives-one g e, z) at (s .answer) }
 
--- ---- laid into a buffer that was `before`, up to the place i
-pub record Lays (text before : List ℕ) (to : ℕ) (bytes buffer : List ℕ) (c : Cursor) (i : ℕ) : Type 0 where
-  pub sound : Sound c
-  pub room : i + length (ahead text c) ≡ to + length bytes
-  pub sized : length buffer ≡ length before
-  pub answer : sets buffer i (ahead text c) ≡ sets before to bytes
-
-pub lays-none : {text buffer bytes : List ℕ} {c : Cursor} (to : ℕ) → Sound c → ahead text c ≡ bytes → Lays text buffer to bytes buffer c to
-lays-none {buffer = buffer} to s e = record { sound = s; room = rw e; sized = refl; answer = ap (sets buffer to) e }
-
-module _ {text before : List ℕ} {to : ℕ} {bytes buffer : List ℕ} {c : Cursor} {i : ℕ} {r : NextByte} (g : Gives text c r) (l : Lays text before to bytes buffer c i) where
-  module _ (e : not (r .some) ≡ true) where
-    pub lay-behind : i ≡ to + length bytes
-    lay-behind = omega (arith, l .room, ap length (gives-none g e))
-
-    pub lay-ends : buffer ≡ sets before to bytes
-    lay-ends = rw (gives-none g e) at (l .answer)
-
-  module _ (e : not (r .some) ≡ false) where
-    pub lay-room : i + 1 ≤ to + length bytes
-    lay-room = omega (arith, l .room, ap length (gives-one g e))
-
-    pub lay-on : Lays text before to bytes (set buffer i (r .byte)) (r .cursor) (i + 1)
-    lay-on = record {
-      sound = g .sound;
-      room = omega (arith, l .room, ap length (gives-one g e));
-      sized = length-set buffer i (r .byte) ∙ l .sized;
-      answer = rw add-one (rw (gives-one g e) at (l .answer));
-    }
-
+-- ---- a buffer with room or without
 module _ (buffer : List ℕ) (to : ℕ) (bytes : List ℕ) where
   pub no-room : length buffer < to + length bytes → (NoRoom ≡ laid buffer to bytes) × (buffer ≡ buffered buffer to bytes)
   no-room h = let e = lt-leb (to + length bytes) (length buffer) h in (rw e, rw e)

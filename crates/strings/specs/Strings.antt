@@ -4,7 +4,7 @@ use mathlib.Core.Path.{_≡_}
 use mathlib.Core.List.{List, [], _∷_, _++_}
 use mathlib.Core.Bool.{Bool, true, false, _&&_, cond}
 use lib.ListN.{length, drop, take}
-use lib.Seq.{sets}
+use lib.Seq.{sets, slice}
 use lib.Dec.{eqb, leb}
 use Rattle.json.specs.String.{chars}
 use Rattle.json.specs.declared.string.InString.the-variants.{Plain}
@@ -43,11 +43,29 @@ pub record Gives (text : List ℕ) (c : Cursor) (r : NextByte) : Type 0 where
   pub bytes : ahead text c ≡ cond (r .some) (r .byte ∷ ahead text (r .cursor)) []
   pub sound : Sound (r .cursor)
 
+-- From `at` up to `i` the string's bytes are those of the text: the rest is to be decoded from there.
+pub record Run (text : List ℕ) (at i : ℕ) : Type 0 where
+  pub ahead : at ≤ i
+  pub inside : i - at ≤ length text - at
+  pub bytes : plainFrom text at ≡ slice at i text ++ plainFrom text i
+
 -- From `at` up to `i` the text has the bytes with which the name begins: the name is to be compared from there.
 pub record Alike (text name : List ℕ) (at i : ℕ) : Type 0 where
   pub ahead : at ≤ i
   pub inside : i - at ≤ length name
   pub answer : same (plainFrom text i) (drop (i - at) name) ≡ same (plainFrom text at) name
+
+-- From `p` up to `i` the text has the bytes that stand from `q` on too: both strings are to be compared from there.
+pub record Paired (text : List ℕ) (p q i : ℕ) : Type 0 where
+  pub ahead : p ≤ i
+  pub inside : i - p ≤ length text - q
+  pub answer : same (plainFrom text i) (plainFrom text (q + (i - p))) ≡ same (plainFrom text p) (plainFrom text q)
+
+-- The decoded byte at a place: b is one up to 255, and 256 where there is none.
+pub record First (text : List ℕ) (at b : ℕ) : Type 0 where
+  pub most : b ≤ 257
+  pub none : b ≡ 256 → plainFrom text at ≡ []
+  pub one : b < 256 → plainFrom text at ≡ b ∷ plainFrom text (at + 1)
 
 -- Whether so many bytes have room in a buffer from `to` on.
 abbrev pub fits : List ℕ → ℕ → List ℕ → Bool

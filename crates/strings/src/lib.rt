@@ -8,13 +8,13 @@ use scan::string;
 ghost use mathlib.Core.Path.{_≡_};
 ghost use mathlib.Core.List.{List, [], _∷_};
 ghost use mathlib.Core.Bool.{false};
-ghost use Prim.Native.Nat.{ℕ, _+_, _<_, _≤_};
+ghost use Prim.Native.Nat.{ℕ, _+_, _-_, _<_, _≤_};
 ghost use lib.ListN.{length, drop, getD};
-ghost use lib.Seq.{sets};
+ghost use lib.Seq.{sets, slice};
 ghost use Rattle.json.specs.Byte.{utf8};
 ghost use Rattle.json.specs.String.{oneMore, gather, point, meant, given as givenBy};
 ghost use Rattle.moving.specs.Read.{decoded};
-ghost use Rattle.strings.specs.Strings.{same, bytesOf, plainFrom, ahead, Sound, Gives, Alike, laid, buffered};
+ghost use Rattle.strings.specs.Strings.{same, bytesOf, plainFrom, ahead, Sound, Gives, Run, Alike, Paired, First, laid, buffered};
 
 // Up to four bytes: the first n of the array.
 pub struct Out {
@@ -262,7 +262,7 @@ fn decoded_byte(text: &[u8], c: Cursor) -> NextByte
 }
 
 // The next byte that a cursor has to give.
-pub fn next_byte(text: &[u8], c: Cursor) -> NextByte
+fn next_byte(text: &[u8], c: Cursor) -> NextByte
     requires { ⌜ Sound c ⌝ }
     ensures { λ r. ⌜ Gives (now (text .entry)) c r ⌝ }
 {
@@ -286,6 +286,20 @@ pub fn next_byte(text: &[u8], c: Cursor) -> NextByte
             given: given + 1,
         },
     }
+}
+
+// The same for a cursor of whatever making: one that no string leads to has nothing to give.
+pub fn next(text: &[u8], c: Cursor) -> NextByte
+    ensures { λ r. ⌜ (Sound c → Gives (now (text .entry)) c r) ⌝ }
+{
+    let out = c.out;
+    if 4 < out.n {
+        return nothing(c);
+    }
+    if 0x100000000 <= c.v {
+        return nothing(c);
+    }
+    next_byte(text, c)
 }
 
 // The first place from `at` on where no plain ASCII character stands that `name` has there too: most names are nothing else.
@@ -312,14 +326,29 @@ fn ascii_same(text: &[u8], at: usize, name: &[u8]) -> usize
     i
 }
 
-// Whether the string whose quote stands at `quote` is `name`.
-pub fn name_is(text: &[u8], quote: usize, name: &[u8]) -> bool
-    ensures { λ r. ⌜ r ≡ same (decoded (drop quote (now (text .entry)))) (now (name .entry)) ⌝ }
+// The plain ASCII character at a place where a character or the closing quote may stand, 256 where the string ends there, and 257 where it is to
+// be decoded: two strings mostly differ in plain characters.
+fn first(text: &[u8], at: usize) -> usize
+    ensures { λ r. ⌜ First (now (text .entry)) at r ⌝ }
 {
-    let at = behind(text, quote);
-    let i = ascii_same(text, at, name);
-    let mut c = plain_at(i);
-    let mut k = i - at;
+    if text.len() <= at {
+        return 256;
+    }
+    let b = text[at];
+    match string::lead_of(b) {
+        Lead::Ascii => b as usize,
+        Lead::Quote => 256,
+        _ => 257,
+    }
+}
+
+// Whether the string goes on from `at` on, where a character or the closing quote may stand, as `name` does from `from` on.
+fn rest_is(text: &[u8], at: usize, name: &[u8], from: usize) -> bool
+    requires { ⌜ from ≤ length (now name) ⌝ }
+    ensures { λ r. ⌜ r ≡ same (plainFrom (now (text .entry)) at) (drop from (now (name .entry))) ⌝ }
+{
+    let mut c = plain_at(at);
+    let mut k = from;
     loop {
         let next = next_byte(text, c);
         if !next.some {
@@ -336,12 +365,60 @@ pub fn name_is(text: &[u8], quote: usize, name: &[u8]) -> bool
     }
 }
 
-// Whether the strings whose quotes stand at `p` and at `q` are the same.
-pub fn names_same(text: &[u8], p: usize, q: usize) -> bool
-    ensures { λ r. ⌜ r ≡ same (decoded (drop p (now (text .entry)))) (decoded (drop q (now (text .entry)))) ⌝ }
+// Whether the string whose quote stands at `quote` is `name`.
+pub fn name_is(text: &[u8], quote: usize, name: &[u8]) -> bool
+    ensures { λ r. ⌜ r ≡ same (decoded (drop quote (now (text .entry)))) (now (name .entry)) ⌝ }
 {
-    let mut c = start(text, p);
-    let mut d = start(text, q);
+    let at = behind(text, quote);
+    let i = ascii_same(text, at, name);
+    let k = i - at;
+    let b = first(text, i);
+    if b == 257 {
+        return rest_is(text, i, name, k);
+    }
+    if b == 256 {
+        return k == name.len();
+    }
+    if name.len() <= k {
+        return false;
+    }
+    if b != name[k] as usize {
+        return false;
+    }
+    rest_is(text, i, name, k)
+}
+
+// The first place from `p` on where no plain ASCII character stands that stands as far behind `q` too.
+fn ascii_both(text: &[u8], p: usize, q: usize) -> usize
+    ensures { λ r. ⌜ Paired (now (text .entry)) p q r ⌝ }
+{
+    let mut i = p;
+    let mut j = q;
+    while i < text.len() {
+        if text.len() <= j {
+            return i;
+        }
+        let b = text[i];
+        if b != text[j] {
+            return i;
+        }
+        match string::lead_of(b) {
+            Lead::Ascii => {
+                i += 1;
+                j += 1;
+            }
+            _ => return i,
+        }
+    }
+    i
+}
+
+// Whether the strings go on alike from `p` and from `q` on, where a character or the closing quote may stand.
+fn rest_same(text: &[u8], p: usize, q: usize) -> bool
+    ensures { λ r. ⌜ r ≡ same (plainFrom (now (text .entry)) p) (plainFrom (now (text .entry)) q) ⌝ }
+{
+    let mut c = plain_at(p);
+    let mut d = plain_at(q);
     loop {
         let next = next_byte(text, c);
         let other = next_byte(text, d);
@@ -359,20 +436,79 @@ pub fn names_same(text: &[u8], p: usize, q: usize) -> bool
     }
 }
 
+// Whether the strings whose quotes stand at `p` and at `q` are the same.
+pub fn names_same(text: &[u8], p: usize, q: usize) -> bool
+    ensures { λ r. ⌜ r ≡ same (decoded (drop p (now (text .entry)))) (decoded (drop q (now (text .entry)))) ⌝ }
+{
+    let at = behind(text, p);
+    let from = behind(text, q);
+    let i = ascii_both(text, at, from);
+    let j = from + (i - at);
+    let b = first(text, i);
+    let d = first(text, j);
+    if b == 257 {
+        return rest_same(text, i, j);
+    }
+    if d == 257 {
+        return rest_same(text, i, j);
+    }
+    if b != d {
+        return false;
+    }
+    if b == 256 {
+        return true;
+    }
+    rest_same(text, i, j)
+}
+
+// The first place from `at` on where no plain ASCII character stands.
+fn ascii_end(text: &[u8], at: usize) -> usize
+    ensures { λ r. ⌜ Run (now (text .entry)) at r ⌝ }
+{
+    let mut i = at;
+    while i < text.len() {
+        match string::lead_of(text[i]) {
+            Lead::Ascii => {
+                i += 1;
+            }
+            _ => return i,
+        }
+    }
+    i
+}
+
+// The number of decoded bytes from a place on where a character or the closing quote may stand.
+fn rest_length(text: &[u8], from: usize) -> usize
+    ensures { λ r. ⌜ r ≡ length (plainFrom (now (text .entry)) from) ⌝ }
+{
+    let mut at = from;
+    let mut state = InString::Plain;
+    let mut v: u64 = 0;
+    let mut n: usize = 0;
+    while at < text.len() {
+        let b = text[at];
+        match string::char_after(state, b) {
+            CharStep::Goes(next) => {
+                let out = char_gives(state, v, b);
+                n += out.n;
+                v = gathered(state, v, b);
+                state = next;
+                at += 1;
+            }
+            CharStep::Closes => return n,
+            CharStep::Refuses => return n,
+        }
+    }
+    n
+}
+
 // The number of decoded bytes of the string whose quote stands at `quote`.
 pub fn decoded_length(text: &[u8], quote: usize) -> usize
     ensures { λ r. ⌜ r ≡ length (decoded (drop quote (now (text .entry)))) ⌝ }
 {
-    let mut c = start(text, quote);
-    let mut n: usize = 0;
-    loop {
-        let next = next_byte(text, c);
-        if !next.some {
-            return n;
-        }
-        c = next.cursor;
-        n += 1;
-    }
+    let at = behind(text, quote);
+    let end = ascii_end(text, at);
+    end - at + rest_length(text, end)
 }
 
 // The decoded byte at position k of the string whose quote stands at `quote`, and 0 behind its end.
@@ -399,23 +535,58 @@ pub enum Laid {
     NoRoom,
 }
 
-// Lays the decoded bytes into the buffer from `to` on, which has room for them.
-fn copy(text: &[u8], quote: usize, buffer: &mut [u8], to: usize) -> usize
-    requires { ⌜ to + length (decoded (drop quote (now text))) ≤ length (now buffer) ⌝ }
-    ensures { λ r. ⌜ r ≡ to + length (decoded (drop quote (now (text .entry)))) ⌝ }
-    ensures { λ _. ⌜ now (buffer .exit) ≡ sets (now (buffer .entry)) to (decoded (drop quote (now (text .entry)))) ⌝ }
+// Lays the bytes from `from` up to `end` into the buffer from `to` on.
+fn copy_plain(text: &[u8], from: usize, end: usize, buffer: &mut [u8], to: usize)
+    requires { ⌜ (from ≤ end) × (end - from ≤ length (now text) - from) × (to + (end - from) ≤ length (now buffer)) ⌝ }
+    ensures { λ _. ⌜ now (buffer .exit) ≡ sets (now (buffer .entry)) to (slice from end (now (text .entry))) ⌝ }
 {
-    let mut c = start(text, quote);
+    let mut j = from;
     let mut i = to;
-    loop {
-        let next = next_byte(text, c);
-        if !next.some {
-            return i;
-        }
-        buffer[i] = next.byte;
-        c = next.cursor;
+    while j < end {
+        buffer[i] = text[j];
+        j += 1;
         i += 1;
     }
+}
+
+// Lays the bytes that are decoded from `from` on, where a character or the closing quote may stand.
+fn copy_rest(text: &[u8], from: usize, buffer: &mut [u8], to: usize) -> usize
+    requires { ⌜ to + length (plainFrom (now text) from) ≤ length (now buffer) ⌝ }
+    ensures { λ r. ⌜ r ≡ to + length (plainFrom (now (text .entry)) from) ⌝ }
+    ensures { λ _. ⌜ now (buffer .exit) ≡ sets (now (buffer .entry)) to (plainFrom (now (text .entry)) from) ⌝ }
+{
+    let mut at = from;
+    let mut state = InString::Plain;
+    let mut v: u64 = 0;
+    let mut k = to;
+    while at < text.len() {
+        let b = text[at];
+        match string::char_after(state, b) {
+            CharStep::Goes(next) => {
+                let out = char_gives(state, v, b);
+                let n = out.n;
+                let bytes = out.bytes;
+                copy_plain(&bytes, 0, n, buffer, k);
+                k += n;
+                v = gathered(state, v, b);
+                state = next;
+                at += 1;
+            }
+            CharStep::Closes => return k,
+            CharStep::Refuses => return k,
+        }
+    }
+    k
+}
+
+// Lays the decoded bytes into the buffer from `to` on, which has room for them: up to `end` they are those of the text.
+fn copy(text: &[u8], at: usize, end: usize, buffer: &mut [u8], to: usize) -> usize
+    requires { ⌜ Run (now text) at end × (to + length (plainFrom (now text) at) ≤ length (now buffer)) ⌝ }
+    ensures { λ r. ⌜ r ≡ to + length (plainFrom (now (text .entry)) at) ⌝ }
+    ensures { λ _. ⌜ now (buffer .exit) ≡ sets (now (buffer .entry)) to (plainFrom (now (text .entry)) at) ⌝ }
+{
+    copy_plain(text, at, end, buffer, to);
+    copy_rest(text, end, buffer, to + (end - at))
 }
 
 // Lays the decoded bytes of the string whose quote stands at `quote` into the buffer from `to` on, where they have room.
@@ -423,12 +594,14 @@ pub fn lay(text: &[u8], quote: usize, buffer: &mut [u8], to: usize) -> Laid
     ensures { λ r. ⌜ r ≡ laid (now (buffer .entry)) to (decoded (drop quote (now (text .entry)))) ⌝ }
     ensures { λ _. ⌜ now (buffer .exit) ≡ buffered (now (buffer .entry)) to (decoded (drop quote (now (text .entry)))) ⌝ }
 {
-    let n = decoded_length(text, quote);
+    let at = behind(text, quote);
+    let end = ascii_end(text, at);
+    let n = end - at + rest_length(text, end);
     if buffer.len() < to {
         return Laid::NoRoom;
     }
     if buffer.len() - to < n {
         return Laid::NoRoom;
     }
-    Laid::Behind(copy(text, quote, buffer, to))
+    Laid::Behind(copy(text, at, end, buffer, to))
 }

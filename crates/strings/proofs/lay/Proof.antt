@@ -1,46 +1,72 @@
 -- The decoded bytes have room, and are laid, or the buffer is left as it was.
 use native.Mathlib.Omega.{arith}
 use borrow.Author.Needs.{needs}
-use Rattle.strings.proofs.Turns.{no-room, room-for}
+use mathlib.Core.Path.{ap}
+use lib.ListN.{length, drop}
 use denote.Ref.{now}
-use lib.ListN.{drop}
 use Rattle.moving.specs.Read.{decoded}
+use Rattle.strings.proofs.Lengths.{from-short}
+use Rattle.strings.proofs.Runs.{run-length}
+use Rattle.strings.proofs.Turns.{no-room, room-for}
 use Rattle.strings.proofs.lay.Statement.{statement}
 use Rattle.strings.proofs.lay.Tie as tie
 
-decoded-length-requires : tie.Need-decoded-length-requires
-decoded-length-requires c κs = search needs
+behind-requires : tie.Need-behind-requires
+behind-requires c κs = search needs
+
+ascii-end-requires : tie.Need-ascii-end-requires
+ascii-end-requires c κs = search needs
+
+sub-n : tie.Need-sub-n
+sub-n c = search needs
+
+rest-length-requires : tie.Need-rest-length-requires
+rest-length-requires c κs = search needs
+
+add-n : tie.Need-add-n
+add-n c =
+    let b = c .before .before in
+    omega (arith, run-length (c .before .ascii-end .ensures), from-short (now (b .before .before .before .args .text)) (b .behind .result))
 
 returns : tie.Need-returns
 returns c =
-    let s = c .before .before .before .before in
-    no-room (now (s .args .buffer)) (s .args .to) (decoded (drop (s .args .quote) (now (s .args .text)))) (omega arith)
+    let b = c .before .before in
+    let s = b .before .before .before .before in
+    no-room (now (s .args .buffer)) (s .args .to) (decoded (drop (s .args .quote) (now (s .args .text)))) (omega (arith, run-length (b .ascii-end .ensures), ap length (b .before .behind .ensures)))
 
 sub-if2 : tie.Need-sub-if2
 sub-if2 c = search needs
 
 returns-2 : tie.Need-returns-2
 returns-2 c =
-    let s = c .before .before .before .before .before in
-    no-room (now (s .args .buffer)) (s .args .to) (decoded (drop (s .args .quote) (now (s .args .text)))) (omega arith)
+    let b = c .before .before .before in
+    let s = b .before .before .before .before in
+    no-room (now (s .args .buffer)) (s .args .to) (decoded (drop (s .args .quote) (now (s .args .text)))) (omega (arith, run-length (b .ascii-end .ensures), ap length (b .before .behind .ensures)))
 
 copy-requires : tie.Need-copy-requires
-copy-requires c κs = search needs
+copy-requires c κs =
+    let b = c .before .before .before .before in
+    (b .ascii-end .ensures, omega (arith, run-length (b .ascii-end .ensures)))
 
 same-length : tie.Need-same-length
 same-length c = search needs
 
 returns-3 : tie.Need-returns-3
 returns-3 c =
-    let s = c .before .before .before .before .before .before .before .before .before in
-    let r = c .before .before .copy in
-    room-for (now (s .args .buffer)) (s .args .to) (decoded (drop (s .args .quote) (now (s .args .text)))) _ _ (omega arith) (r .ensures .0) (r .ensures .1)
+    let r = c .before .before in
+    let b = r .before .before .before .before .before in
+    let s = b .before .before .before .before in
+    room-for (now (s .args .buffer)) (s .args .to) (decoded (drop (s .args .quote) (now (s .args .text)))) _ _ (omega (arith, run-length (b .ascii-end .ensures), ap length (b .before .behind .ensures))) (rw (b .before .behind .ensures) at (r .copy .ensures .0)) (rw (b .before .behind .ensures) at (r .copy .ensures .1))
 
 pub lay-spec : {M : Type 1} → statement M
 lay-spec =
     tie.close
     (tie.spec
-    decoded-length-requires
+    behind-requires
+    ascii-end-requires
+    sub-n
+    rest-length-requires
+    add-n
     returns
     sub-if2
     returns-2

@@ -1,90 +1,79 @@
--- The bytes ahead are compared with the rest of the name, behind the plain ASCII characters with which both begin. The measure is what is ahead.
+-- The name is compared from behind the plain ASCII characters with which both begin, and most differ there or end.
 use native.Mathlib.Omega.{arith}
 use borrow.Author.Needs.{needs}
-use lib.ListN.{length, drop}
-use Rattle.moving.specs.Read.{decoded}
-use Rattle.strings.specs.Strings.{same, ahead}
-use Rattle.strings.proofs.Ahead.{ahead-falls}
-use Rattle.strings.proofs.Turns.{Against, against-behind, name-ends, name-shorter, name-other, name-on}
+use Prim.Native.Nat.{_-_}
+use mathlib.Core.Path.{_∙_}
+use Rattle.strings.proofs.Pairs.{first-ends, first-longer, first-differs}
 use Rattle.strings.proofs.name_is.Statement.{statement}
 use Rattle.strings.proofs.name_is.Tie as tie
 
-abbrev Inv-loop : tie.InvT-loop
-Inv-loop text quote name at i c₀ k₀ c k = Against text name (same (decoded (drop quote text)) name) c k
-
-abbrev μ-loop : tie.MeasureT-loop
-μ-loop text quote name at i c₀ k₀ c k = length (ahead text c)
-
-behind-requires : tie.Need-behind-requires Inv-loop μ-loop
+behind-requires : tie.Need-behind-requires
 behind-requires c κs = search needs
 
-ascii-same-requires : tie.Need-ascii-same-requires Inv-loop μ-loop
+ascii-same-requires : tie.Need-ascii-same-requires
 ascii-same-requires c κs = search needs
 
-plain-at-requires : tie.Need-plain-at-requires Inv-loop μ-loop
-plain-at-requires c κs = search needs
-
-sub-k : tie.Need-sub-k Inv-loop μ-loop
+sub-k : tie.Need-sub-k
 sub-k c = search needs
 
-loop-holds : tie.Need-loop-holds Inv-loop μ-loop
-loop-holds c = against-behind (c .before .ascii-same .ensures) (c .before .before .behind .ensures) (c .plain-at .ensures .0 _) (c .plain-at .ensures .1)
+first-requires : tie.Need-first-requires
+first-requires c κs = search needs
 
-next-byte-requires : tie.Need-next-byte-requires Inv-loop μ-loop
-next-byte-requires c κs = c .loop .inv .sound
+rest-is-requires : tie.Need-rest-is-requires
+rest-is-requires c κs = search needs
 
-returns : tie.Need-returns Inv-loop μ-loop
+returns : tie.Need-returns
 returns c =
-    let n = c .before .before in
-    name-ends (n .next-byte .ensures) (n .before .loop .inv) (c .if1 .taken)
+    let a = c .before .before .before in
+    rw (a .before .behind .ensures) at (c .rest-is .ensures ∙ a .ascii-same .ensures .answer)
 
-returns-2 : tie.Need-returns-2 Inv-loop μ-loop
+returns-2 : tie.Need-returns-2
 returns-2 c =
-    let n = c .before .before .before in
-    name-shorter (n .next-byte .ensures) (n .before .loop .inv) (c .before .if1 .left) (c .if2 .taken)
+    let a = c .before .before .before in
+    rw (a .before .behind .ensures) at (first-ends (c .before .before .first .ensures) (a .ascii-same .ensures) (c .if2 .taken))
 
-shared-slice-read-if3 : tie.Need-shared-slice-read-if3 Inv-loop μ-loop
-shared-slice-read-if3 c = search needs
-
-returns-3 : tie.Need-returns-3 Inv-loop μ-loop
+returns-3 : tie.Need-returns-3
 returns-3 c =
-    let t = c .before .before .before in
-    let n = t .before .before .before in
-    name-other (n .next-byte .ensures) (n .before .loop .inv) (t .before .if1 .left) (t .if2 .left) (c .if3 .taken)
+    let f = c .before .before .before in
+    let a = f .before in
+    rw (a .before .behind .ensures) at (first-longer (f .first .ensures) (a .ascii-same .ensures) (omega (arith, f .first .ensures .most)) (c .if3 .taken))
 
-add-k : tie.Need-add-k Inv-loop μ-loop
-add-k c =
-    let t = c .before .before .before .before in
-    let s = t .before .before .before .before .before .before .before .before .before .before in
-    omega (arith, t .if2 .left, s .good .1 .1 .0 .0)
+shared-slice-read-if4 : tie.Need-shared-slice-read-if4
+shared-slice-read-if4 c = search needs
 
-loop-less : tie.Need-loop-less Inv-loop μ-loop
-loop-less c =
-    let t = c .before .before .before .before .before in
-    ahead-falls (t .before .before .next-byte .ensures) (t .if1 .left)
+cast-if4 : tie.Need-cast-if4
+cast-if4 c =
+    let a = c .before .before .before .before .before in
+    omega (arith, c .shared-slice-known3 .given (a .ascii-same .result - a .before .behind .result))
 
-loop-again : tie.Need-loop-again Inv-loop μ-loop
-loop-again c =
-    let t = c .before .before .before .before in
-    let n = t .before .before .before in
-    name-on (n .next-byte .ensures) (n .before .loop .inv) (t .before .if1 .left) (t .if2 .left) (c .before .if3 .left)
+returns-4 : tie.Need-returns-4
+returns-4 c =
+    let f = c .before .before .before .before .before in
+    let a = f .before in
+    rw (a .before .behind .ensures) at (first-differs (f .first .ensures) (a .ascii-same .ensures) (omega (arith, f .first .ensures .most)) (c .before .before .if3 .left) (c .if4 .taken))
+
+rest-is-requires-2 : tie.Need-rest-is-requires-2
+rest-is-requires-2 c κs = search needs
+
+returns-5 : tie.Need-returns-5
+returns-5 c =
+    let a = c .before .before .before .before .before .before .before in
+    rw (a .before .behind .ensures) at (c .rest-is2 .ensures ∙ a .ascii-same .ensures .answer)
 
 pub name-is-spec : {M : Type 1} → statement M
 name-is-spec =
     tie.close
     (tie.spec
-    Inv-loop
-    μ-loop
     behind-requires
     ascii-same-requires
-    plain-at-requires
     sub-k
-    loop-holds
-    next-byte-requires
+    first-requires
+    rest-is-requires
     returns
     returns-2
-    shared-slice-read-if3
     returns-3
-    add-k
-    loop-less
-    loop-again)
+    shared-slice-read-if4
+    cast-if4
+    returns-4
+    rest-is-requires-2
+    returns-5)

@@ -1,74 +1,81 @@
--- The bytes ahead of both cursors are compared. The measure is what is ahead of the first.
+-- The strings are compared from behind the plain ASCII characters with which both begin, and most differ there or end.
 use borrow.Author.Needs.{needs}
-use lib.ListN.{length, drop}
-use Rattle.moving.specs.Read.{decoded}
-use Rattle.strings.specs.Strings.{same, ahead}
-use Rattle.strings.proofs.Ahead.{ahead-falls}
-use Rattle.strings.proofs.Turns.{Beside, both-end, other-ends, both-differ, both-on}
+use mathlib.Core.Path.{sym, _∙_}
+use Rattle.strings.proofs.Pairs.{firsts-end, firsts-differ}
 use Rattle.strings.proofs.names_same.Statement.{statement}
 use Rattle.strings.proofs.names_same.Tie as tie
 
-abbrev Inv-loop : tie.InvT-loop
-Inv-loop text p q c₀ d₀ c d = Beside text (same (decoded (drop p text)) (decoded (drop q text))) c d
+behind-requires : tie.Need-behind-requires
+behind-requires c κs = search needs
 
-abbrev μ-loop : tie.MeasureT-loop
-μ-loop text p q c₀ d₀ c d = length (ahead text c)
+behind-requires-2 : tie.Need-behind-requires-2
+behind-requires-2 c κs = search needs
 
-start-requires : tie.Need-start-requires Inv-loop μ-loop
-start-requires c κs = search needs
+ascii-both-requires : tie.Need-ascii-both-requires
+ascii-both-requires c κs = search needs
 
-start-requires-2 : tie.Need-start-requires-2 Inv-loop μ-loop
-start-requires-2 c κs = search needs
+sub-j : tie.Need-sub-j
+sub-j c = search needs
 
-loop-holds : tie.Need-loop-holds Inv-loop μ-loop
-loop-holds c = record { sound = c .before .start .ensures .1; other = c .start2 .ensures .1; answer = cc }
+add-j : tie.Need-add-j
+add-j c = search needs
 
-next-byte-requires : tie.Need-next-byte-requires Inv-loop μ-loop
-next-byte-requires c κs = c .loop .inv .sound
+first-requires : tie.Need-first-requires
+first-requires c κs = search needs
 
-next-byte-requires-2 : tie.Need-next-byte-requires-2 Inv-loop μ-loop
-next-byte-requires-2 c κs = c .before .loop .inv .other
+first-requires-2 : tie.Need-first-requires-2
+first-requires-2 c κs = search needs
 
-returns : tie.Need-returns Inv-loop μ-loop
+rest-same-requires : tie.Need-rest-same-requires
+rest-same-requires c κs = search needs
+
+returns : tie.Need-returns
 returns c =
-    let n = c .before .before .before in
-    both-end (n .before .next-byte .ensures) (n .next-byte2 .ensures) (n .before .before .loop .inv) (c .before .if1 .taken)
+    let a = c .before .before .before .before in
+    rw (a .before .before .behind .ensures, a .before .behind2 .ensures) at (c .rest-same .ensures ∙ a .ascii-both .ensures .answer)
 
-returns-2 : tie.Need-returns-2 Inv-loop μ-loop
+rest-same-requires-2 : tie.Need-rest-same-requires-2
+rest-same-requires-2 c κs = search needs
+
+returns-2 : tie.Need-returns-2
 returns-2 c =
-    let n = c .before .before .before .before in
-    other-ends (n .before .next-byte .ensures) (n .next-byte2 .ensures) (n .before .before .loop .inv) (c .before .before .if1 .left) (c .if2 .taken)
+    let a = c .before .before .before .before .before in
+    rw (a .before .before .behind .ensures, a .before .behind2 .ensures) at (c .rest-same2 .ensures ∙ a .ascii-both .ensures .answer)
 
-returns-3 : tie.Need-returns-3 Inv-loop μ-loop
+returns-3 : tie.Need-returns-3
 returns-3 c =
-    let t = c .before .before .before in
-    let n = t .before .before .before .before in
-    both-differ (n .before .next-byte .ensures) (n .next-byte2 .ensures) (n .before .before .loop .inv) (t .before .before .if1 .left) (t .if2 .left) (c .if3 .taken)
+    let a = c .before .before .before .before .before in
+    rw (a .before .before .behind .ensures, a .before .behind2 .ensures) at (sym (firsts-differ (c .before .before .before .before .first .ensures) (c .before .before .before .first2 .ensures) (c .before .before .if1 .left) (c .before .if2 .left) (c .if3 .taken)) ∙ a .ascii-both .ensures .answer)
 
-loop-less : tie.Need-loop-less Inv-loop μ-loop
-loop-less c =
-    let t = c .before .before .before .before .before .before .before in
-    ahead-falls (t .before .before .before .next-byte .ensures) (t .if1 .left)
+returns-4 : tie.Need-returns-4
+returns-4 c =
+    let a = c .before .before .before .before .before .before in
+    rw (a .before .before .behind .ensures, a .before .behind2 .ensures) at (sym (firsts-end (c .before .before .before .before .before .first .ensures) (c .before .before .before .before .first2 .ensures) (c .if4 .taken) (c .before .if3 .left)) ∙ a .ascii-both .ensures .answer)
 
-loop-again : tie.Need-loop-again Inv-loop μ-loop
-loop-again c =
-    let t = c .before .before .before .before .before in
-    let n = t .before .before .before .before in
-    both-on (n .before .next-byte .ensures) (n .next-byte2 .ensures) (n .before .before .loop .inv) (t .before .before .if1 .left) (t .if2 .left) (c .before .before .if3 .left)
+rest-same-requires-3 : tie.Need-rest-same-requires-3
+rest-same-requires-3 c κs = search needs
+
+returns-5 : tie.Need-returns-5
+returns-5 c =
+    let a = c .before .before .before .before .before .before .before in
+    rw (a .before .before .behind .ensures, a .before .behind2 .ensures) at (c .rest-same3 .ensures ∙ a .ascii-both .ensures .answer)
 
 pub names-same-spec : {M : Type 1} → statement M
 names-same-spec =
     tie.close
     (tie.spec
-    Inv-loop
-    μ-loop
-    start-requires
-    start-requires-2
-    loop-holds
-    next-byte-requires
-    next-byte-requires-2
+    behind-requires
+    behind-requires-2
+    ascii-both-requires
+    sub-j
+    add-j
+    first-requires
+    first-requires-2
+    rest-same-requires
     returns
+    rest-same-requires-2
     returns-2
     returns-3
-    loop-less
-    loop-again)
+    returns-4
+    rest-same-requires-3
+    returns-5)

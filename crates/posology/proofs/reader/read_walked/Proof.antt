@@ -17,7 +17,7 @@ slice-aggregate-read-head : tie.Need-slice-aggregate-read-head
 slice-aggregate-read-head c = search needs
 
 read-head-requires : tie.Need-read-head-requires
-read-head-requires c κs = (refl, c .before .before .before .blanks-end .ensures .inside (omega arith))
+read-head-requires c κs = search needs
 
 refused-requires : tie.Need-refused-requires
 refused-requires c κs = search needs
@@ -33,7 +33,7 @@ returns c =
     let blanks = c .before .before .before .before .before .before .before .blanks-end in
     let h = c .before .before .before .read-head in
     let stands = standing text (blanks .result) (c .before .before .before .before .before .before .before .before .before .before .pre .behind) (c .before .before .before .before .before .before .before .before .before .before .pre .takes) (blanks .ensures .lands) in
-    let reads = at-room (s .purpose) text before (blanks .result) stands (h .result) _ (c .before .before .before .before .before .room-of .ensures) (h .ensures) in
+    let reads = at-room (s .purpose) text before (blanks .result) stands (h .result) _ (c .before .before .before .before .before .room-of .ensures) (h .ensures .reads refl (blanks .ensures .inside (omega arith))) in
     refused-reading (s .purpose) text before (blanks .result) stands (h .result) _ reads (c .before .if1 .taken) (c .refused .ensures)
 
 slice-aggregate-lay-strings : tie.Need-slice-aggregate-lay-strings
@@ -47,7 +47,7 @@ lay-strings-requires c κs =
     let blanks = c .before .before .before .before .before .before .before .before .blanks-end in
     let h = c .before .before .before .before .read-head in
     let stands = standing text (blanks .result) (c .before .before .before .before .before .before .before .before .before .before .before .pre .behind) (c .before .before .before .before .before .before .before .before .before .before .before .pre .takes) (blanks .ensures .lands) in
-    let reads = at-room (s .purpose) text before (blanks .result) stands (h .result) _ (c .before .before .before .before .before .before .room-of .ensures) (h .ensures) in
+    let reads = at-room (s .purpose) text before (blanks .result) stands (h .result) _ (c .before .before .before .before .before .before .room-of .ensures) (h .ensures .reads refl (blanks .ensures .inside (omega arith))) in
     (reads .size, few (s .purpose) text before (blanks .result) stands (h .result) _ reads (c .before .before .if1 .left))
 
 slice-aggregate-table-of : tie.Need-slice-aggregate-table-of
@@ -61,7 +61,7 @@ table-of-requires c κs =
     let blanks = c .before .before .before .before .before .before .before .before .before .before .before .before .blanks-end in
     let h = c .before .before .before .before .before .before .before .before .read-head in
     let stands = standing text (blanks .result) (c .before .before .before .before .before .before .before .before .before .before .before .before .before .before .before .pre .behind) (c .before .before .before .before .before .before .before .before .before .before .before .before .before .before .before .pre .takes) (blanks .ensures .lands) in
-    let reads = at-room (s .purpose) text before (blanks .result) stands (h .result) _ (c .before .before .before .before .before .before .before .before .before .before .room-of .ensures) (h .ensures) in
+    let reads = at-room (s .purpose) text before (blanks .result) stands (h .result) _ (c .before .before .before .before .before .before .before .before .before .before .room-of .ensures) (h .ensures .reads refl (blanks .ensures .inside (omega arith))) in
     (reads .size, few (s .purpose) text before (blanks .result) stands (h .result) _ reads (c .before .before .before .before .before .before .if1 .left))
 
 same-length-2 : tie.Need-same-length-2
@@ -75,7 +75,7 @@ returns-2 c =
     let blanks = c .before .before .before .before .before .before .before .before .before .before .before .before .before .blanks-end in
     let h = c .before .before .before .before .before .before .before .before .before .read-head in
     let stands = standing text (blanks .result) (c .before .before .before .before .before .before .before .before .before .before .before .before .before .before .before .before .pre .behind) (c .before .before .before .before .before .before .before .before .before .before .before .before .before .before .before .before .pre .takes) (blanks .ensures .lands) in
-    let reads = at-room (s .purpose) text before (blanks .result) stands (h .result) _ (c .before .before .before .before .before .before .before .before .before .before .before .room-of .ensures) (h .ensures) in
+    let reads = at-room (s .purpose) text before (blanks .result) stands (h .result) _ (c .before .before .before .before .before .before .before .before .before .before .before .room-of .ensures) (h .ensures .reads refl (blanks .ensures .inside (omega arith))) in
     let e = c .before .before .before .before .before .before .before .if1 .left in
     (taken-reading (s .purpose) text before (blanks .result) stands (h .result) _ reads e (c .table-of .ensures), taken-buffer (s .purpose) text before (blanks .result) stands (h .result) _ reads e (c .before .before .before .before .lay-strings .ensures))
 

@@ -1,0 +1,354 @@
+/* Times posology_read beside programs that do the same job with a JSON library's tree: each object's names looked at (unknown, twice), its type and values
+ * checked, a record filled for it, strings copied. What they leave out is to their favour: places of refusals, numbers' exact digits, UTF-8 of the text.
+ * Then the worst texts of 32,768 bytes. Built and run by bench/read. */
+#include <cjson/cJSON.h>
+#include <rapidjson/document.h>
+#include <simdjson.h>
+
+#include <algorithm>
+#include <cmath>
+#include <cstdint>
+#include <cstdio>
+#include <cstring>
+#include <ctime>
+#include <string>
+#include <string_view>
+#include <vector>
+
+#include "../include/posology.h"
+
+struct Record {
+  int kind;
+  uint64_t below, a, b, c, d;
+};
+struct Table {
+  size_t count = 0, text = 0;
+  Record records[64];
+  char strings[2048];
+};
+
+/* The trees of the three libraries, seen in one way. */
+struct Cj {
+  const cJSON *v;
+  bool object() const { return cJSON_IsObject(v); }
+  bool array() const { return cJSON_IsArray(v); }
+  bool number() const { return cJSON_IsNumber(v); }
+  bool string() const { return cJSON_IsString(v); }
+  double num() const { return v->valuedouble; }
+  std::string_view str() const { return v->valuestring; }
+  template <class F> bool members(F f) const {
+    for (const cJSON *m = v->child; m; m = m->next)
+      if (!f(std::string_view(m->string), Cj{m})) return false;
+    return true;
+  }
+  template <class F> bool elements(F f) const {
+    for (const cJSON *m = v->child; m; m = m->next)
+      if (!f(Cj{m})) return false;
+    return true;
+  }
+};
+struct Rj {
+  const rapidjson::Value *v;
+  bool object() const { return v->IsObject(); }
+  bool array() const { return v->IsArray(); }
+  bool number() const { return v->IsNumber(); }
+  bool string() const { return v->IsString(); }
+  double num() const { return v->GetDouble(); }
+  std::string_view str() const { return {v->GetString(), v->GetStringLength()}; }
+  template <class F> bool members(F f) const {
+    for (auto &m : v->GetObject())
+      if (!f(std::string_view(m.name.GetString(), m.name.GetStringLength()), Rj{&m.value})) return false;
+    return true;
+  }
+  template <class F> bool elements(F f) const {
+    for (auto &m : v->GetArray())
+      if (!f(Rj{&m})) return false;
+    return true;
+  }
+};
+struct Sj {
+  simdjson::dom::element v;
+  bool object() const { return v.is_object(); }
+  bool array() const { return v.is_array(); }
+  bool number() const { return v.is_number(); }
+  bool string() const { return v.is_string(); }
+  double num() const { return v.get_double().value_unsafe(); }
+  std::string_view str() const { return v.get_string().value_unsafe(); }
+  template <class F> bool members(F f) const {
+    simdjson::dom::object o = v.get_object().value_unsafe();
+    for (auto m : o)
+      if (!f(m.key, Sj{m.value})) return false;
+    return true;
+  }
+  template <class F> bool elements(F f) const {
+    simdjson::dom::array a = v.get_array().value_unsafe();
+    for (auto m : a)
+      if (!f(Sj{m})) return false;
+    return true;
+  }
+};
+
+/* An object's members by the names that it may have: false for an unknown name or one that stands twice. */
+template <class J, size_t N> bool named(J o, const char *const (&names)[N], const J *(&at)[N], J (&store)[N]) {
+  std::fill(at, at + N, nullptr);
+  return o.object() && o.members([&](std::string_view n, J v) {
+    for (size_t i = 0; i < N; i++)
+      if (n == names[i]) {
+        if (at[i]) return false;
+        store[i] = v, at[i] = &store[i];
+        return true;
+      }
+    return false;
+  });
+}
+
+static bool decimal(double x, uint64_t &out) {
+  if (x < 0 || x > 999999.999999) return false;
+  out = std::llround(x * 1e6);
+  return std::fabs(x * 1e6 - out) < 1e-3;
+}
+template <class J> bool decimal(const J *v, uint64_t &out) { return v && v->number() && decimal(v->num(), out); }
+template <class J> bool integer(const J *v, uint64_t least, uint64_t most, uint64_t &out) {
+  if (!v || !v->number()) return false;
+  double x = std::floor(v->num() + 0.5);
+  out = x;
+  return x >= least && x <= most;
+}
+static Record *add(Table &t, int kind) {
+  if (t.count == 64) return nullptr;
+  t.records[t.count] = Record{kind, 0, 0, 0, 0, 0};
+  return &t.records[t.count++];
+}
+static bool keep(Table &t, std::string_view s, uint64_t &start, uint64_t &len) {
+  if (t.text + s.size() > sizeof t.strings) return false;
+  std::memcpy(t.strings + t.text, s.data(), s.size());
+  start = t.text, len = s.size(), t.text += s.size();
+  return true;
+}
+static bool two(const char *p, unsigned &n) {
+  if (p[0] < '0' || p[0] > '9' || p[1] < '0' || p[1] > '9') return false;
+  n = (p[0] - '0') * 10 + p[1] - '0';
+  return true;
+}
+static bool date(std::string_view s) {
+  unsigned c, y, m, d;
+  return s.size() >= 10 && two(&s[0], c) && two(&s[2], y) && s[4] == '-' && two(&s[5], m) && s[7] == '-' && two(&s[8], d) && m >= 1 && m <= 12 && d >= 1 && d <= 31;
+}
+static bool clock_time(std::string_view s, uint64_t &out) {
+  unsigned h, m, x = 0;
+  if (s.size() != 5 && s.size() != 8) return false;
+  if (!two(&s[0], h) || s[2] != ':' || !two(&s[3], m) || (s.size() == 8 && (s[5] != ':' || !two(&s[6], x)))) return false;
+  out = h * 3600 + m * 60 + x;
+  return h < 24 && m < 60 && x < 60;
+}
+
+#define NAMED(J, o, ...)                         \
+  static const char *const names[] = {__VA_ARGS__}; \
+  constexpr size_t N = sizeof names / sizeof *names; \
+  const J *at[N];                                \
+  J store[N];                                    \
+  if (!named<J, N>(o, names, at, store)) return false;
+
+template <class J> bool type_of(J o, uint64_t most, uint64_t &t) {
+  if (!o.object()) return false;
+  bool ok = false;
+  o.members([&](std::string_view n, J v) {
+    if (n != "t") return true;
+    ok = integer(&v, 1, most, t);
+    return false;
+  });
+  return ok;
+}
+template <class J> bool dosage(J o, Table &t) {
+  uint64_t k;
+  Record *r;
+  if (!type_of(o, 3, k) || !(r = add(t, 11 + k))) return false;
+  if (k == 1) {
+    NAMED(J, o, "t", "a")
+    return decimal(at[1], r->a) && r->a > 0;
+  }
+  if (k == 2) {
+    NAMED(J, o, "t", "aFrom", "aTo", "duU", "du")
+    return decimal(at[1], r->a) && decimal(at[2], r->b) && integer(at[3], 1, 7, r->c) && integer(at[4], 1, 99999, r->d) && r->a < r->b;
+  }
+  NAMED(J, o, "t", "aMin", "aMax")
+  return decimal(at[1], r->a) && decimal(at[2], r->b) && r->a > 0 && r->a < r->b;
+}
+template <class J> bool days(const J *v, uint64_t most, uint64_t &set) {
+  set = 0;
+  return v && v->array() && v->elements([&](J e) {
+    uint64_t d;
+    if (!integer(&e, 1, most, d) || (set >> (d - 1) & 1)) return false;
+    set |= 1ull << (d - 1);
+    return true;
+  }) && set;
+}
+template <class J> bool timed(J o, Table &t) {
+  uint64_t k;
+  Record *r;
+  if (!type_of(o, 6, k) || !(r = add(t, 5 + k))) return false;
+  size_t own = t.count;
+  bool ok = false;
+  if (k == 1) {
+    NAMED(J, o, "t", "do")
+    ok = at[1] && dosage(*at[1], t);
+  } else if (k == 2) {
+    NAMED(J, o, "t", "ts")
+    ok = at[1] && at[1]->array() && at[1]->elements([&](J e) {
+      Record *x = add(t, 17);
+      NAMED(J, e, "do", "dt")
+      return x && at[0] && dosage(*at[0], t) && at[1] && at[1]->string() && clock_time(at[1]->str(), x->a);
+    });
+  } else if (k == 3) {
+    NAMED(J, o, "t", "ss")
+    ok = at[1] && at[1]->array() && at[1]->elements([&](J e) {
+      Record *x = add(t, 18);
+      NAMED(J, e, "do", "s")
+      return x && at[0] && dosage(*at[0], t) && integer(at[1], 1, 4, x->a);
+    });
+  } else if (k == 4) {
+    NAMED(J, o, "t", "wds", "tdo")
+    ok = days(at[1], 7, r->a) && at[2] && timed(*at[2], t);
+  } else if (k == 5) {
+    NAMED(J, o, "t", "doms", "tdo")
+    ok = days(at[1], 28, r->a) && at[2] && timed(*at[2], t);
+  } else {
+    NAMED(J, o, "t", "do", "miDu", "miDuU")
+    ok = at[1] && dosage(*at[1], t) && integer(at[2], 1, 99999, r->a) && integer(at[3], 1, 7, r->b);
+  }
+  r->below = t.count - own;
+  return ok;
+}
+template <class J> bool detail(J o, Table &t, int left) {
+  uint64_t k;
+  Record *r;
+  if (!type_of(o, 5, k) || !(r = add(t, k))) return false;
+  size_t own = t.count;
+  bool ok = false;
+  if (k == 1) {
+    NAMED(J, o, "t", "ds")
+    uint64_t *to[] = {&r->a, &r->b, &r->c, &r->d};
+    int i = 0;
+    ok = at[1] && at[1]->array() && at[1]->elements([&](J e) { return i < 4 && decimal(&e, *to[i++]); }) && i == 4;
+  } else if (k == 2) {
+    NAMED(J, o, "t", "text")
+    ok = at[1] && at[1]->string() && keep(t, at[1]->str(), r->a, r->b) && r->b;
+  } else if (k == 3) {
+    NAMED(J, o, "t", "tdo")
+    ok = at[1] && timed(*at[1], t);
+  } else if (k == 4) {
+    NAMED(J, o, "t", "cyDuU", "cyDu", "tdo", "tdpc")
+    r->c = 1;
+    ok = integer(at[1], 1, 7, r->a) && integer(at[2], 1, 99999, r->b) && at[3] && timed(*at[3], t) && (!at[4] || integer(at[4], 1, 99999, r->c));
+  } else if (left) {
+    NAMED(J, o, "t", "sos")
+    ok = at[1] && at[1]->array() && at[1]->elements([&](J e) {
+      uint64_t u;
+      Record *x;
+      if (!type_of(e, 2, u) || !(x = add(t, 14 + u))) return false;
+      size_t first = t.count;
+      if (u == 1) {
+        NAMED(J, e, "t", "du", "duU", "po")
+        bool good = integer(at[1], 1, 99999, x->a) && integer(at[2], 1, 7, x->b) && at[3] && detail(*at[3], t, left - 1);
+        x->below = t.count - first;
+        return good;
+      }
+      NAMED(J, e, "t", "du", "duU")
+      return integer(at[1], 1, 99999, x->a) && integer(at[2], 1, 7, x->b);
+    });
+  }
+  r->below = t.count - own;
+  return ok;
+}
+template <class J> bool posology(J o, Table &t) {
+  uint64_t start, len, meal;
+  NAMED(J, o, "dtFrom", "dtTo", "inRes", "po", "relMeal", "unit", "applInstr", "roa", "moa")
+  for (int i = 0; i < 2; i++)
+    if (at[i] && !(at[i]->string() && date(at[i]->str()))) return false;
+  if (!at[3] || !detail(*at[3], t, 3)) return false;
+  if (at[4] && !integer(at[4], 1, 6, meal)) return false;
+  if (!at[5]) return false;
+  for (int i = 5; i < 9; i++)
+    if (at[i] && !(at[i]->string() && keep(t, at[i]->str(), start, len))) return false;
+  return true;
+}
+
+static bool by_cjson(const std::string &s) {
+  Table t;
+  cJSON *v = cJSON_ParseWithLength(s.data(), s.size());
+  bool ok = v && posology(Cj{v}, t);
+  cJSON_Delete(v);
+  return ok;
+}
+static bool by_rapidjson(const std::string &s) {
+  Table t;
+  rapidjson::Document d;
+  d.Parse(s.data(), s.size());
+  return !d.HasParseError() && posology(Rj{&d}, t);
+}
+static bool by_simdjson(const std::string &s) {
+  static simdjson::dom::parser parser;
+  Table t;
+  simdjson::dom::element e;
+  return !parser.parse(s).get(e) && posology(Sj{e}, t);
+}
+static uint8_t strings[2048], area[POSOLOGY_TABLE_BYTES];
+static bool by_posology(const std::string &s) {
+  uint64_t place;
+  return posology_read((const uint8_t *)s.data(), s.size(), 1, strings, sizeof strings, area, sizeof area, &place) == 0;
+}
+
+static double now() {
+  timespec t;
+  clock_gettime(CLOCK_MONOTONIC, &t);
+  return t.tv_sec * 1e9 + t.tv_nsec;
+}
+template <class F> double best(F f, const std::string &s) {
+  double b = 1e18;
+  for (int i = 0; i < 30; i++) {
+    int n = s.size() > 4000 ? 5 : 1000;
+    double a = now();
+    for (int k = 0; k < n; k++) f(s);
+    b = std::min(b, (now() - a) / n);
+    if (b > 1e7) break;
+  }
+  return b;
+}
+
+static std::string repeated(std::string head, const char *part, std::string tail) {
+  while (head.size() + std::strlen(part) + tail.size() <= 32768) head += part;
+  if (head.back() == ',') head.pop_back();
+  return head + tail;
+}
+static std::string many_names(const char *form) {
+  std::string s = "{";
+  char b[80];
+  for (int i = 0; s.size() < 32700; i++) {
+    std::snprintf(b, sizeof b, form, 'A' + i % 26, 'A' + i / 26 % 26, 'a' + i / 676 % 26);
+    s += b;
+  }
+  s.back() = '}';
+  return s;
+}
+
+int main() {
+  const std::vector<std::string> plans = {
+      R"({"dtFrom":"2024-05-01","po":{"t":1,"ds":[1,0,0.5,0]},"relMeal":2,"unit":"Tablette","applInstr":"mit Wasser"})",
+      R"({"dtFrom":"2024-05-01","dtTo":"2024-06-01","po":{"t":4,"cyDuU":5,"cyDu":1,"tdo":{"t":4,"wds":[1,3,5],"tdo":{"t":2,"ts":[{"do":{"t":1,"a":1.5},"dt":"08:00:00"}]}}},"relMeal":2,"unit":"Tablette"})",
+      R"({"dtFrom":"2024-05-01","po":{"t":5,"sos":[{"t":1,"du":10,"duU":4,"po":{"t":1,"ds":[1,1,1,0]}},{"t":2,"du":5,"duU":4},{"t":1,"du":10,"duU":4,"po":{"t":3,"tdo":{"t":3,"ss":[{"do":{"t":1,"a":1},"s":1},{"do":{"t":1,"a":2},"s":4}]}}}]},"unit":"Stk","applInstr":"mit Wasser einnehmen"})",
+      R"({"dtFrom":"2024-05-01","po":{"t":3,"tdo":{"t":2,"ts":[{"do":{"t":1,"a":1},"dt":"08:00:00"},{"do":{"t":2,"aFrom":1,"aTo":2.5,"duU":4,"du":3},"dt":"12:00:00"},{"do":{"t":3,"aMin":1,"aMax":3},"dt":"16:30:00"},{"do":{"t":1,"a":0.25},"dt":"20:00:00"}]}},"relMeal":1,"unit":"Stk","applInstr":"vor dem Essen, mit viel Wasser","roa":"PO","moa":"schlucken"})"};
+  std::printf("%-8s %12s %12s %12s %12s\n", "bytes", "posology", "cJSON", "RapidJSON", "simdjson");
+  for (auto &p : plans) {
+    if (!by_posology(p) || !by_cjson(p) || !by_rapidjson(p) || !by_simdjson(p)) return std::puts("a plan was refused"), 1;
+    std::printf("%-8zu %9.0f ns %9.0f ns %9.0f ns %9.0f ns\n", p.size(), best(by_posology, p), best(by_cjson, p), best(by_rapidjson, p), best(by_simdjson, p));
+  }
+  struct { const char *name; std::string text; } worst[] = {
+      {"thousands of unknown names", many_names("\"%c%c%c\":1,")},
+      {"long names, a common prefix", many_names("\"aaaaaaaaaaaaaaaaaaaaaaaa%c%c%c\":1,")},
+      {"blanks only", std::string(32768, ' ')},
+      {"escapes only", repeated(R"({"po":{"t":2,"text":")", "\\u0041", R"("},"unit":"a"})")},
+      {"a long list", repeated(R"({"po":{"t":1,"ds":[)", "1,", R"(]},"unit":"a"})")},
+      {"deep, and a long list", repeated(R"({"unit":"a","po":{"t":5,"sos":[{"t":1,"du":1,"duU":1,"po":{"t":5,"sos":[{"t":1,"du":1,"duU":1,"po":{"t":5,"sos":[{"t":1,"du":1,"duU":1,"po":{"t":4,"cyDuU":6,"cyDu":1,"tdo":{"t":5,"doms":[)", "1,", R"(],"tdo":{"t":2,"ts":[]}}}}]}}]}}]}})")},
+      {"long strings", repeated(R"({"po":{"t":2,"text":")", "abcdefgh", R"("},"unit":"a"})")}};
+  for (auto &w : worst) std::printf("%-30s %8zu bytes %10.1f us\n", w.name, w.text.size(), best(by_posology, w.text) / 1000);
+}

@@ -1,0 +1,9 @@
+pub mod AreaBack
+pub mod Bytes
+pub mod Fill
+pub mod InFits
+pub mod Laid
+pub mod Numbers
+pub mod Parts
+pub mod Same
+pub mod Tags

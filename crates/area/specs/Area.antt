@@ -1,0 +1,131 @@
+-- The lent area of the hospital side (docs/AREA.md): a table's numbers, eight bytes each, the least significant first; and back.
+use Prim.Native.Nat.{ℕ, zero, suc, _+_, _*_, _/_, _%_}
+use mathlib.Core.List.{List, [], _∷_}
+use mathlib.Core.Bool.{Bool}
+use lib.Dec.{eqb}
+use lib.ListN.{drop, getD}
+use Rattle.document.specs.Lookup.{same}
+use Rattle.document.specs.Words.{tableWords}
+use Rattle.document.specs.declared.table.Text.{Text}
+use Rattle.document.specs.declared.table.Date.{Date}
+use Rattle.document.specs.declared.table.Date.the-variants as D
+use Rattle.document.specs.declared.table.Dosage.the-variants as S
+use Rattle.document.specs.declared.table.Kind.{Kind}
+use Rattle.document.specs.declared.table.Kind.the-variants as K
+use Rattle.document.specs.declared.table.Record.{Record}
+use Rattle.document.specs.declared.table.Head.{Head}
+use Rattle.document.specs.declared.table.Table.{Table}
+
+abbrev pub areaBytes : ℕ
+areaBytes = 3280
+
+-- So many bytes of a number, in front of what follows.
+unfoldable pub bytesOf : ℕ → ℕ → List ℕ → List ℕ
+bytesOf zero x k = k
+bytesOf (suc n) x k = x % 256 ∷ bytesOf n (x / 256) k
+
+unfoldable pub allBytes : List ℕ → List ℕ
+unfolding bytesOf
+allBytes [] = []
+allBytes (w ∷ ws) = bytesOf 8 w (allBytes ws)
+
+unfoldable pub areaOf : Table → List ℕ
+unfolding allBytes tableWords
+areaOf t = allBytes (tableWords t)
+
+-- The number of so many bytes in front; a byte that is not there counts as 0.
+unfoldable pub numberIn : ℕ → List ℕ → ℕ
+numberIn zero bytes = 0
+numberIn (suc n) bytes = getD bytes 0 0 + 256 * numberIn n (drop 1 bytes)
+
+-- What is made of each of n groups of so many numbers, one behind the other.
+unfoldable pub groups : {A : Type 0} → ℕ → (List ℕ → A) → ℕ → List ℕ → List A
+groups size f zero s = []
+groups size f (suc n) s = f s ∷ groups size f n (drop size s)
+
+unfoldable pub numbersIn : List ℕ → List ℕ
+unfolding numberIn groups
+numbersIn bytes = groups 8 (numberIn 8) 410 bytes
+
+-- A value as its type holds it: what the type cannot hold is cut, so that it lies otherwise than it was read.
+abbrev pub u8 : ℕ → ℕ
+u8 x = x % 256
+
+abbrev pub u16 : ℕ → ℕ
+u16 x = x % 65536
+
+abbrev pub u32 : ℕ → ℕ
+u32 x = x % 0x100000000
+
+-- The kinds by their tags, in front of the last.
+abbrev pub kinds : ℕ → ℕ → ℕ → ℕ → List Kind
+kinds a b c d =
+    K.None
+    ∷ K.Daily a b c d
+    ∷ K.FreeText (record { start = a; len = b })
+    ∷ K.Single
+    ∷ K.Cyclic (u8 a) (u32 b) (u32 c)
+    ∷ K.Sequence
+    ∷ K.DosageOnly
+    ∷ K.Times
+    ∷ K.DaySegments
+    ∷ K.WeekDays (u32 a)
+    ∷ K.DaysOfMonth (u32 a)
+    ∷ K.Interval (u32 a) (u8 b)
+    ∷ K.Dosage (S.Simple a)
+    ∷ K.Dosage (S.FromTo a b (u8 c) (u32 d))
+    ∷ K.Dosage (S.Range a b)
+    ∷ K.PosologySequence (u32 a) (u8 b)
+    ∷ K.Pause (u32 a) (u8 b)
+    ∷ K.AtTime (u32 a)
+    ∷ []
+
+-- A tag that no kind has is read as the last, which lies otherwise.
+unfoldable pub kindOf : ℕ → ℕ → ℕ → ℕ → ℕ → Kind
+kindOf tag a b c d = getD (kinds a b c d) tag (K.InSegment (u8 a))
+
+-- The record of the six numbers in front.
+unfoldable pub recordIn : List ℕ → Record
+unfolding kindOf
+recordIn ws = record { kind = kindOf (getD ws 0 0) (getD ws 2 0) (getD ws 3 0) (getD ws 4 0) (getD ws 5 0); below = getD ws 1 0 }
+
+-- A date by its form: absent, bare, or with a time.
+unfoldable pub dateOf : ℕ → ℕ → ℕ → ℕ → ℕ → ℕ → ℕ → Date
+dateOf form year month day second west zone =
+    getD (D.Absent ∷ D.Bare (u16 year) (u8 month) (u8 day) ∷ []) form
+    (D.Moment (u16 year) (u8 month) (u8 day) (u32 second) (eqb west 1) (u16 zone))
+
+-- The date of the seven numbers in front.
+unfoldable pub dateIn : List ℕ → Date
+unfolding dateOf
+dateIn ws = dateOf (getD ws 0 0) (getD ws 1 0) (getD ws 2 0) (getD ws 3 0) (getD ws 4 0) (getD ws 5 0) (getD ws 6 0)
+
+abbrev pub textIn : ℕ → List ℕ → Text
+textIn at ws = record { start = getD ws at 0; len = getD ws (at + 1) 0 }
+
+unfoldable pub headIn : List ℕ → Head
+unfolding dateIn
+headIn ws =
+    record {
+      from = dateIn ws;
+      to = dateIn (drop 7 ws);
+      reserve = eqb (getD ws 14 0) 1;
+      meal = u8 (getD ws 15 0);
+      unit = textIn 16 ws;
+      instructions = textIn 18 ws;
+      roa = textIn 20 ws;
+      moa = textIn 22 ws;
+    }
+
+abbrev pub tableOfNumbers : List ℕ → Table
+tableOfNumbers ws = record { head = headIn ws; count = getD ws 24 0; text = getD ws 25 0; records = groups 6 recordIn 64 (drop 26 ws) }
+
+-- The table that bytes would lay out.
+unfoldable pub tableIn : List ℕ → Table
+unfolding numbersIn headIn recordIn groups
+tableIn bytes = tableOfNumbers (numbersIn bytes)
+
+-- Bytes lay out a table where the one that they would lay out lies in just these bytes.
+unfoldable pub isArea : List ℕ → Bool
+unfolding areaOf tableIn
+isArea bytes = same (areaOf (tableIn bytes)) bytes

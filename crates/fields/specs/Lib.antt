@@ -1,0 +1,7 @@
+pub mod At
+pub mod Names
+pub mod Fields
+pub mod Reading
+pub mod Dates
+pub mod DateParts
+pub mod DaySets

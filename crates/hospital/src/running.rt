@@ -1,0 +1,45 @@
+// The first posology of a run into the lent area.
+use document::table::NextAnswer;
+ghost use mathlib.Core.Path.{_≡_};
+ghost use lib.ListN.{length};
+ghost use Rattle.document.specs.Answer.{nextBufferAfter};
+ghost use Rattle.hospital.specs.Calls.{calledNext, nextNumber, nextPlace, nextAreaAfter};
+
+const ONLY_BLANKS: u64 = 255;
+
+#[no_mangle]
+pub extern "C" fn posology_next(
+    run: &[u8],
+    purpose: u64,
+    strings: &mut [u8],
+    table: &mut [u8],
+    place: &mut u64,
+) -> u64
+    ensures { λ r. ⌜ r ≡ nextNumber (calledNext purpose (now (run .entry)) (length (now (strings .entry))) (length (now (table .entry)))) ⌝ }
+    ensures { λ _. ⌜ now (place .exit) ≡ nextPlace (calledNext purpose (now (run .entry)) (length (now (strings .entry))) (length (now (table .entry)))) ⌝ }
+    ensures { λ _. ⌜ now (strings .exit) ≡ nextBufferAfter (calledNext purpose (now (run .entry)) (length (now (strings .entry))) (length (now (table .entry)))) (now (strings .entry)) ⌝ }
+    ensures { λ _. ⌜ now (table .exit) ≡ nextAreaAfter (calledNext purpose (now (run .entry)) (length (now (strings .entry))) (length (now (table .entry)))) (now (table .entry)) ⌝ }
+{
+    if table.len() != area::AREA {
+        *place = area::AREA as u64;
+        return 19;
+    }
+    let r = posology::read_next(run, purpose, strings);
+    let answer = r.answer;
+    match answer {
+        NextAnswer::Taken { end } => {
+            let t = r.table;
+            area::lay(t, table);
+            *place = end as u64;
+            0
+        }
+        NextAnswer::Blank { length } => {
+            *place = length as u64;
+            ONLY_BLANKS
+        }
+        NextAnswer::Refused { number, place: at } => {
+            *place = at as u64;
+            number as u64
+        }
+    }
+}

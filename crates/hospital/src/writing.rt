@@ -1,0 +1,52 @@
+// The table of the lent area as its plain text.
+use document::table::Writing;
+ghost use mathlib.Core.Path.{_≡_};
+ghost use lib.ListN.{length};
+ghost use Rattle.document.specs.Valid.{isUse};
+ghost use Rattle.document.specs.Write.{bufferAfter};
+ghost use Rattle.hospital.specs.Calls.{calledWrite, writeNumber, writePlace};
+
+fn is_use(purpose: u64) -> bool
+    ensures { λ r. ⌜ r ≡ isUse purpose ⌝ }
+{
+    if purpose == 1 {
+        return true;
+    }
+    purpose == 3
+}
+
+#[no_mangle]
+pub extern "C" fn posology_write(
+    table: &[u8],
+    strings: &[u8],
+    purpose: u64,
+    out: &mut [u8],
+    place: &mut u64,
+) -> u64
+    ensures { λ r. ⌜ r ≡ writeNumber (calledWrite purpose (now (table .entry)) (now (strings .entry)) (length (now (out .entry)))) ⌝ }
+    ensures { λ _. ⌜ now (place .exit) ≡ writePlace (calledWrite purpose (now (table .entry)) (now (strings .entry)) (length (now (out .entry)))) ⌝ }
+    ensures { λ _. ⌜ now (out .exit) ≡ bufferAfter (calledWrite purpose (now (table .entry)) (now (strings .entry)) (length (now (out .entry)))) (now (out .entry)) ⌝ }
+{
+    if table.len() != area::AREA {
+        *place = area::AREA as u64;
+        return 19;
+    }
+    *place = 0;
+    if !is_use(purpose) {
+        return 17;
+    }
+    if !area::is_area(table) {
+        return 18;
+    }
+    let w = writer::write(area::table_in(table), strings, purpose, out);
+    match w {
+        Writing::Written { length } => {
+            *place = length as u64;
+            0
+        }
+        Writing::Refused { number, place: at } => {
+            *place = at as u64;
+            number as u64
+        }
+    }
+}

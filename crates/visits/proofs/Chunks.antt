@@ -1,0 +1,79 @@
+-- The words of each value's records: how many, and a record in front of those below it.
+use Prim.Native.Nat.{ℕ, _+_, _*_, _-_}
+use mathlib.Core.Path.{_≡_, refl, ap, sym, _∙_}
+use mathlib.Core.List.{List, [], _∷_, _++_}
+use native.Mathlib.Omega.{arith}
+use lib.ListN.{length}
+use Rattle.document.specs.Posology as P
+use Rattle.document.specs.Valid.{timedRecords}
+use Rattle.document.specs.Table.{daySet, dosageRow, timesRows, segmentsRows, timedRows}
+use Rattle.document.specs.Visit.{Outcome}
+use Rattle.document.specs.Words.{words, row, rows, allWords}
+use Rattle.visits.specs.Visiting.{RowsOf, Did}
+use Rattle.visits.specs.Kept.{more}
+use Rattle.visits.specs.declared.rows.Used.{Used}
+use Rattle.visits.proofs.Rowed.{count-below}
+
+-- How many words each value takes: six a record.
+pub times-length : (ts : List P.AtTime) → length (rows (allWords (timesRows ts []))) ≡ (length ts + length ts) * 6
+times-length [] = refl
+times-length (P.atTime d dt ∷ ts) = omega (arith, times-length ts)
+
+pub segments-length : (ss : List P.InSegment) → length (rows (allWords (segmentsRows ss []))) ≡ (length ss + length ss) * 6
+segments-length [] = refl
+segments-length (P.inSegment d s ∷ ss) = omega (arith, segments-length ss)
+
+pub timed-length : (td : P.Timed) → length (rows (allWords (timedRows td []))) ≡ timedRecords td * 6
+unfolding timedRows
+timed-length (P.dosageOnly d) = refl
+timed-length (P.times ts) = omega (arith, times-length ts)
+timed-length (P.daySegments ss) = omega (arith, segments-length ss)
+timed-length (P.weekDays ds td) = omega (arith, timed-length td)
+timed-length (P.daysOfMonth ds td) = omega (arith, timed-length td)
+timed-length (P.interval d du unit) = refl
+
+-- An application behind those before it.
+pub times-join : (t : P.AtTime) (ts : List P.AtTime) (c c′ : List ℕ) → c ≡ rows (allWords (timesRows (t ∷ []) [])) → c′ ≡ rows (allWords (timesRows ts []))
+    → c ++ c′ ≡ rows (allWords (timesRows (t ∷ ts) []))
+times-join (P.atTime d dt) ts c c′ e e′ = ap (λ x. x ++ c′) e ∙ ap (λ x. rows (allWords (timesRows (P.atTime d dt ∷ []) [])) ++ x) e′
+
+pub segments-join : (s : P.InSegment) (ss : List P.InSegment) (c c′ : List ℕ) → c ≡ rows (allWords (segmentsRows (s ∷ []) [])) → c′ ≡ rows (allWords (segmentsRows ss []))
+    → c ++ c′ ≡ rows (allWords (segmentsRows (s ∷ ss) []))
+segments-join (P.inSegment d s) ss c c′ e e′ = ap (λ x. x ++ c′) e ∙ ap (λ x. rows (allWords (segmentsRows (P.inSegment d s ∷ []) [])) ++ x) e′
+
+-- A record in front: the number of those below it, and their words.
+pub row-above : (t a b c d : ℕ) {n n′ : ℕ} {k k′ : List ℕ} → n ≡ n′ → k ≡ k′ → row (words n t a b c d) k ≡ row (words n′ t a b c d) k′
+row-above t a b c d {n′ = n′} {k} e e′ = ap (λ n. row (words n t a b c d) k) e ∙ ap (λ k. row (words n′ t a b c d) k) e′
+
+-- How many records are below one, by the words of what was done there.
+pub counted : {B : Type 0} {room : ℕ} (u : Used) {v : Used} {before mid : List ℕ} {below : RowsOf B} {o : Outcome B} (d : Did room (more u) before below o v mid) (n : ℕ) {c : List ℕ}
+    → d .chunk ≡ c → length c ≡ n * 6 → v .records - u .records - 1 ≡ n
+counted u d n e h = omega (arith, count-below d n (ap length e ∙ h))
+
+-- The records of each timed dosage, its own in front.
+module _ {n : ℕ} {k : List ℕ} where
+  pub dosage-only-rows : (d : P.Dosage) → n ≡ 1 → k ≡ rows (allWords (dosageRow d ∷ [])) → row (words n 6 0 0 0 0) k ≡ rows (allWords (timedRows (P.dosageOnly d) []))
+  unfolding timedRows
+  dosage-only-rows d e e′ = row-above 6 0 0 0 0 e e′
+
+  pub times-rows : (ts : List P.AtTime) → n ≡ length ts + length ts → k ≡ rows (allWords (timesRows ts [])) → row (words n 7 0 0 0 0) k ≡ rows (allWords (timedRows (P.times ts) []))
+  unfolding timedRows
+  times-rows ts e e′ = row-above 7 0 0 0 0 e e′
+
+  pub day-segments-rows : (ss : List P.InSegment) → n ≡ length ss + length ss → k ≡ rows (allWords (segmentsRows ss [])) → row (words n 8 0 0 0 0) k ≡ rows (allWords (timedRows (P.daySegments ss) []))
+  unfolding timedRows
+  day-segments-rows ss e e′ = row-above 8 0 0 0 0 e e′
+
+  pub week-days-rows : (ds : List ℕ) (td : P.Timed) {set : ℕ} → daySet ds ≡ set → n ≡ timedRecords td → k ≡ rows (allWords (timedRows td []))
+      → row (words n 9 set 0 0 0) k ≡ rows (allWords (timedRows (P.weekDays ds td) []))
+  unfolding timedRows
+  week-days-rows ds td b e e′ = ap (λ s. row (words n 9 s 0 0 0) k) (sym b) ∙ row-above 9 (daySet ds) 0 0 0 e e′
+
+  pub days-of-month-rows : (ds : List ℕ) (td : P.Timed) {set : ℕ} → daySet ds ≡ set → n ≡ timedRecords td → k ≡ rows (allWords (timedRows td []))
+      → row (words n 10 set 0 0 0) k ≡ rows (allWords (timedRows (P.daysOfMonth ds td) []))
+  unfolding timedRows
+  days-of-month-rows ds td b e e′ = ap (λ s. row (words n 10 s 0 0 0) k) (sym b) ∙ row-above 10 (daySet ds) 0 0 0 e e′
+
+  pub interval-rows : (d : P.Dosage) (du unit : ℕ) → n ≡ 1 → k ≡ rows (allWords (dosageRow d ∷ [])) → row (words n 11 du unit 0 0) k ≡ rows (allWords (timedRows (P.interval d du unit) []))
+  unfolding timedRows
+  interval-rows d du unit e e′ = row-above 11 du unit 0 0 e e′

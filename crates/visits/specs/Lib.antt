@@ -1,0 +1,6 @@
+pub mod Visiting
+pub mod Kept
+pub mod Room
+pub mod Fours
+pub mod Heads
+pub mod HeadRows

@@ -1,0 +1,190 @@
+-- What visiting an object leaves: the value that Visit.antt reads there, as rows of six words behind those before it; or the refusal.
+use Prim.Native.Nat.{ℕ, _+_, _*_, _-_, _<_, _≤_}
+use mathlib.Core.Path.{_≡_}
+use mathlib.Core.List.{List, [], _∷_, _++_}
+use mathlib.Core.Bool.{true, false, cond}
+use lib.ListN.{length, drop, getD}
+use lib.Seq.{sets}
+use lib.Dec.{eqb}
+use Rattle.json.specs.Tree.{Place, object, list, Members, Elements}
+use Rattle.moving.specs.Read.{decoded}
+use Rattle.document.specs.Bytes.{bytes}
+use Rattle.document.specs.Posology as P
+use Rattle.document.specs.Lookup.{Found, Entry}
+use Rattle.document.specs.Schema.{Family, aTimed, OfFamily, anObject, typesOf, mayStand, mayOpen, underSingle, underDays, underCyclic}
+use Rattle.document.specs.Visit.{Left, Outcome, done, guard, Value, entriesOf, valuesOf, needed, members, body, each}
+use Rattle.document.specs.Table.{timesRows, segmentsRows, timedRows, detailRows, dosageRow}
+use Rattle.document.specs.Valid.{detailRecords, objectsRecords, detailStrings, objectStrings, objectsStrings}
+use Rattle.document.specs.Words.{words, row, rows, allWords}
+use Rattle.fields.specs.At.{At}
+use Rattle.fields.specs.Names.{Slot, Once}
+use Rattle.fields.specs.Fields.{Refuses}
+use Rattle.visits.specs.declared.rows.Used.{Used}
+use Rattle.visits.specs.declared.rows.Visit.{Visit}
+use Rattle.visits.specs.declared.rows.Visit.the-variants.{Done, Refused}
+use Rattle.visits.specs.declared.opened.Opened.{Opened}
+
+-- What the objects so far leave of the 64 records and of the room.
+abbrev pub leftOf : ℕ → Used → Left
+leftOf room u = record { records = 64 - u .records; room = room - u .text }
+
+-- Rows of a value whose strings start at a place of the buffer.
+abbrev pub RowsOf : Type 0 → Type 1
+RowsOf A = A → ℕ → List ℕ → Type 0
+
+pub record Did {A : Type 0} (room : ℕ) (u : Used) (before : List ℕ) (rowsOf : RowsOf A) (o : Outcome A) (v : Used) (after : List ℕ) : Type 0 where
+  pub value : A
+  pub chunk : List ℕ
+  pub outcome : o ≡ done value (leftOf room v)
+  pub row : rowsOf value (u .text) chunk
+  pub words : after ≡ sets before (6 * u .records) chunk
+  pub size : u .records * 6 + length chunk ≡ v .records * 6
+  pub few : v .records ≤ 64
+  pub more : u .text ≤ v .text
+  pub fits : v .text ≤ room
+
+-- Rows that tell where the value's strings end.
+abbrev pub RowsIn : Type 0 → Type 1
+RowsIn A = ℕ → RowsOf A
+
+abbrev pub VisitedIn : {A : Type 0} → List ℕ → ℕ → Used → List ℕ → RowsIn A → Outcome A → Visit → List ℕ → Type 0
+VisitedIn text room u before rowsIn o (Done v) after = Did room u before (rowsIn (v .text)) o v after
+VisitedIn text room u before rowsIn o (Refused n p) after = Refuses text o n p × (length after ≡ length before)
+
+abbrev pub Visited : {A : Type 0} → List ℕ → ℕ → Used → List ℕ → RowsOf A → Outcome A → Visit → List ℕ → Type 0
+Visited text room u before rowsOf o r after = VisitedIn text room u before (λ _. rowsOf) o r after
+
+-- The rows of each value. A FreeText's has its quote's place in the fifth word, until the strings are laid down.
+abbrev pub DosageRows : RowsOf P.Dosage
+DosageRows d at chunk = chunk ≡ rows (allWords (dosageRow d ∷ []))
+
+abbrev pub TimesRows : RowsOf (List P.AtTime)
+TimesRows ts at chunk = chunk ≡ rows (allWords (timesRows ts []))
+
+abbrev pub SegmentsRows : RowsOf (List P.InSegment)
+SegmentsRows ss at chunk = chunk ≡ rows (allWords (segmentsRows ss []))
+
+abbrev pub AtTimeRows : RowsOf P.AtTime
+AtTimeRows t at chunk = chunk ≡ rows (allWords (timesRows (t ∷ []) []))
+
+abbrev pub InSegmentRows : RowsOf P.InSegment
+InSegmentRows s at chunk = chunk ≡ rows (allWords (segmentsRows (s ∷ []) []))
+
+abbrev pub TimedRows : RowsOf P.Timed
+TimedRows td at chunk = chunk ≡ rows (allWords (timedRows td []))
+
+unfoldable mutual
+  pub DetailRows : P.Detail → List ℕ → ℕ → List ℕ → Type 0
+  DetailRows (P.daily a b c d) text at chunk = chunk ≡ rows (words 0 1 a b c d ∷ [])
+  DetailRows (P.freeText cs) text at chunk = (q : ℕ) × (chunk ≡ rows (words 0 2 at (length cs) q 0 ∷ [])) × (decoded (drop q text) ≡ cs)
+  DetailRows (P.single td) text at chunk = chunk ≡ rows (allWords (detailRows (P.single td) at []))
+  DetailRows (P.cyclic unit du td per) text at chunk = chunk ≡ rows (allWords (detailRows (P.cyclic unit du td per) at []))
+  DetailRows (P.sequence os) text at chunk = (inner : List ℕ) × (chunk ≡ row (words (objectsRecords os) 5 0 0 0 0) inner) × ObjectsRows os text at inner
+
+  pub ObjectRows : P.SequenceObject → List ℕ → ℕ → List ℕ → Type 0
+  ObjectRows (P.posologySequence du unit po) text at chunk = (inner : List ℕ) × (chunk ≡ row (words (detailRecords po) 15 du unit 0 0) inner) × DetailRows po text at inner
+  ObjectRows (P.pause du unit) text at chunk = chunk ≡ rows (words 0 16 du unit 0 0 ∷ [])
+
+  pub ObjectsRows : P.SequenceObjects → List ℕ → ℕ → List ℕ → Type 0
+  ObjectsRows P.noObject text at chunk = chunk ≡ []
+  ObjectsRows (P.objectThen o os) text at chunk = (first : List ℕ) × (inner : List ℕ) × (chunk ≡ first ++ inner) × ObjectRows o text at first × ObjectsRows os text (at + length (objectStrings o [])) inner
+
+-- The same with the end of the value's strings: they lie behind one another.
+abbrev pub DetailAt : List ℕ → RowsIn P.Detail
+DetailAt text end d at chunk = DetailRows d text at chunk × (end ≡ at + length (detailStrings d []))
+
+abbrev pub ObjectIn : List ℕ → RowsIn P.SequenceObject
+ObjectIn text end o at chunk = ObjectRows o text at chunk × (end ≡ at + length (objectStrings o []))
+
+abbrev pub ObjectsIn : List ℕ → RowsIn (List P.SequenceObject)
+ObjectsIn text end os at chunk = ObjectsRows (P.ordered os) text at chunk × (end ≡ at + length (objectsStrings (P.ordered os) []))
+
+-- The words, and room for one record more.
+pub record Ready (before : List ℕ) (u : Used) : Type 0 where
+  pub size : length before ≡ 384
+  pub few : u .records ≤ 64
+
+-- An object of a family at a place is visited.
+abbrev pub VisitsObject : (f : Family) → RowsOf (OfFamily f) → List ℕ → ℕ → Used → List ℕ → Visit → List ℕ → Type 0
+VisitsObject f rowsOf text at u before r after =
+    (room : ℕ) (p : Place) (ms : Members) → At text at (object p ms) → u .text ≤ room
+    → Visited text room u before rowsOf (members f p (entriesOf ms) (leftOf room u)) r after
+
+-- What is left of an object of type t, its names settled.
+abbrev pub VisitsBody : (f : Family) → ℕ → RowsOf (OfFamily f) → List ℕ → ℕ → Opened → Used → List ℕ → Visit → List ℕ → Type 0
+VisitsBody f t rowsOf text at o u before r after =
+    (room : ℕ) (p : Place) (ms : Members) → At text at (object p ms) → Once text (entriesOf ms) (o .members) (o .slots) → u .text ≤ room
+    → Visited text room u before rowsOf (body f t (bytes "t" ∷ []) p (entriesOf ms) (leftOf room u)) r after
+
+-- The same where the room is known.
+abbrev pub VisitsObjectIn : ℕ → (f : Family) → RowsIn (OfFamily f) → List ℕ → ℕ → Used → List ℕ → Visit → List ℕ → Type 0
+VisitsObjectIn room f rowsIn text at u before r after =
+    (p : Place) (ms : Members) → At text at (object p ms)
+    → VisitedIn text room u before rowsIn (members f p (entriesOf ms) (leftOf room u)) r after
+
+abbrev pub VisitsBodyIn : ℕ → (f : Family) → ℕ → RowsIn (OfFamily f) → List ℕ → ℕ → Opened → Used → List ℕ → Visit → List ℕ → Type 0
+VisitsBodyIn room f t rowsIn text at o u before r after =
+    (p : Place) (ms : Members) → At text at (object p ms) → Once text (entriesOf ms) (o .members) (o .slots)
+    → VisitedIn text room u before rowsIn (body f t (bytes "t" ∷ []) p (entriesOf ms) (leftOf room u)) r after
+
+-- A needed object in a slot.
+abbrev pub VisitsNeeded : (f : Family) → RowsOf (OfFamily f) → List ℕ → ℕ → ℕ → Used → List ℕ → Visit → List ℕ → Type 0
+VisitsNeeded fam rowsOf text brace v u before r after =
+    (room : ℕ) (f : Found Value) → Slot text v f → u .text ≤ room
+    → Visited text room u before rowsOf (needed (anObject fam) (drop brace text) f (leftOf room u)) r after
+
+abbrev pub VisitsNeededIn : ℕ → (f : Family) → RowsIn (OfFamily f) → List ℕ → ℕ → ℕ → Used → List ℕ → Visit → List ℕ → Type 0
+VisitsNeededIn room fam rowsIn text brace v u before r after =
+    (f : Found Value) → Slot text v f
+    → VisitedIn text room u before rowsIn (needed (anObject fam) (drop brace text) f (leftOf room u)) r after
+
+-- The elements of a list, each an object of a family.
+abbrev pub VisitsEach : (f : Family) → RowsOf (List (OfFamily f)) → List ℕ → ℕ → Used → List ℕ → Visit → List ℕ → Type 0
+VisitsEach fam rowsOf text at u before r after =
+    (room : ℕ) (p : Place) (es : Elements) → At text at (list p es) → u .text ≤ room
+    → Visited text room u before rowsOf (each (anObject fam) (valuesOf es) (leftOf room u)) r after
+
+abbrev pub VisitsEachIn : ℕ → (f : Family) → RowsIn (List (OfFamily f)) → List ℕ → ℕ → Used → List ℕ → Visit → List ℕ → Type 0
+VisitsEachIn room fam rowsIn text at u before r after =
+    (p : Place) (es : Elements) → At text at (list p es)
+    → VisitedIn text room u before rowsIn (each (anObject fam) (valuesOf es) (leftOf room u)) r after
+
+-- An object opened as far as its type: refused, or what is left to be done.
+pub record Opens (types : ℕ) (text : List ℕ) (at : ℕ) (o : Opened) (es : List (Entry Value)) : Type 0 where
+  pub refused : o .refused ≡ true → (f : Family) → typesOf f ≡ types → (l : Left) → Refuses text (members f (drop at text) es l) (o .number) (o .place)
+  pub settled : o .refused ≡ false → Once text es (o .members) (o .slots)
+  pub kind : o .refused ≡ false → (1 ≤ o .kind) × (o .kind ≤ types)
+  pub inside : o .refused ≡ false → getD (o .slots) 0 0 ≤ length text
+  pub opened : o .refused ≡ false → (f : Family) → typesOf f ≡ types → (l : Left)
+      → members f (drop at text) es l
+      ≡ guard (mayStand f (o .kind)) 10 (drop (getD (o .slots) 0 0) text)
+      (guard (mayOpen f (o .kind)) 14 (drop (getD (o .slots) 0 0) text)
+      (body f (o .kind) (bytes "t" ∷ []) (drop at text) es l))
+
+abbrev pub OpensTyped : ℕ → List ℕ → ℕ → Opened → Type 0
+OpensTyped types text at o = (p : Place) (ms : Members) → At text at (object p ms) → Opens types text at o (entriesOf ms)
+
+-- The same without a type.
+pub record OpensAs (text : List ℕ) (at : ℕ) (o : Opened) (es : List (Entry Value)) : Type 0 where
+  pub refused : o .refused ≡ true → (f : Family) → typesOf f ≡ 0 → (l : Left) → Refuses text (members f (drop at text) es l) (o .number) (o .place)
+  pub settled : o .refused ≡ false → Once text es (o .members) (o .slots)
+  pub opened : o .refused ≡ false → (f : Family) → typesOf f ≡ 0 → (l : Left) → members f (drop at text) es l ≡ body f 0 [] (drop at text) es l
+
+abbrev pub OpensPlain : List ℕ → ℕ → Opened → Type 0
+OpensPlain text at o = (p : Place) (ms : Members) → At text at (object p ms) → OpensAs text at o (entriesOf ms)
+
+-- The rows of the types that may stand under a timed dosage's parent, by the code's numbers: Single, days, Cyclic, Cyclic in weeks, in months.
+abbrev pub typesUnder : ℕ → List ℕ
+typesUnder parent =
+    cond (eqb parent 0) underSingle
+    (cond (eqb parent 1) underDays
+    (cond (eqb parent 2) (underCyclic 1)
+    (cond (eqb parent 3) (underCyclic 5) (underCyclic 6))))
+
+-- A timed dosage opened: 10 where its type may not stand, 15 where no record is left.
+pub record OpensUnder (parent : ℕ) (text : List ℕ) (at : ℕ) (u : Used) (o : Opened) (es : List (Entry Value)) : Type 0 where
+  pub refused : o .refused ≡ true → (room : ℕ) → Refuses text (members (aTimed (typesUnder parent)) (drop at text) es (leftOf room u)) (o .number) (o .place)
+  pub settled : o .refused ≡ false → Once text es (o .members) (o .slots)
+  pub kind : o .refused ≡ false → Rattle.document.specs.Date.among (o .kind) (typesUnder parent) ≡ true
+  pub few : o .refused ≡ false → u .records < 64
+  pub opened : o .refused ≡ false → (l : Left) → members (aTimed (typesUnder parent)) (drop at text) es l ≡ body (aTimed (typesUnder parent)) (o .kind) (bytes "t" ∷ []) (drop at text) es l

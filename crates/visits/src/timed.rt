@@ -1,0 +1,309 @@
+// Timed dosages (document 01, "Objects": DosageOnly to Interval).
+use crate::application;
+use crate::dosage;
+use crate::opened;
+use crate::opened::Opened;
+use crate::rows;
+use crate::rows::Used;
+use crate::rows::Visit;
+use crate::rows::up;
+use crate::rows::up_found;
+use fields::days;
+use fields::field;
+use fields::field::Field;
+use fields::field::Found;
+use fields::names;
+use fields::names::DO;
+use fields::names::DOMS;
+use fields::names::MI_DU;
+use fields::names::MI_DU_U;
+use fields::names::SS;
+use fields::names::T;
+use fields::names::TDO;
+use fields::names::TS;
+use fields::names::Unknown;
+use fields::names::WDS;
+ghost use mathlib.Core.Path.{_≡_};
+ghost use mathlib.Core.List.{List};
+ghost use Prim.Native.Nat.{ℕ, _≤_, _<_};
+ghost use lib.ListN.{length};
+ghost use Rattle.json.specs.Tree.{Place, Members, object};
+ghost use Rattle.document.specs.Date.{among};
+ghost use Rattle.document.specs.Schema.{aTimed, underDays};
+ghost use Rattle.document.specs.Visit.{entriesOf};
+ghost use Rattle.fields.specs.At.{At};
+ghost use Rattle.visits.specs.Visiting.{Ready, TimedRows, typesUnder, OpensUnder, VisitsBody, VisitsNeeded};
+ghost use Rattle.visits.specs.Kept.{Kept, Stands};
+
+const DOSAGE_ONLY: [usize; 2] = [T, DO];
+
+const TIMES: [usize; 2] = [T, TS];
+
+const DAY_SEGMENTS: [usize; 2] = [T, SS];
+
+const WEEK_DAYS: [usize; 3] = [T, WDS, TDO];
+
+const DAYS_OF_MONTH: [usize; 3] = [T, DOMS, TDO];
+
+const INTERVAL: [usize; 4] = [T, DO, MI_DU, MI_DU_U];
+
+// "Which kind may stand under which is one fixed table": a row a parent, 1 where the type 0 to 6 may stand under it.
+pub(crate) const UNDER_SINGLE: usize = 0;
+
+pub(crate) const UNDER_DAYS: usize = 1;
+
+pub(crate) const UNDER_CYCLIC: usize = 2;
+
+pub(crate) const UNDER_WEEKS: usize = 3;
+
+pub(crate) const UNDER_MONTHS: usize = 4;
+
+const ALLOWED: [u8; 35] = [
+    0,
+    1,
+    1,
+    1,
+    0,
+    0,
+    0, //
+    0,
+    1,
+    1,
+    1,
+    0,
+    0,
+    0, //
+    0,
+    1,
+    1,
+    1,
+    0,
+    0,
+    1, //
+    0,
+    1,
+    1,
+    1,
+    1,
+    0,
+    1, //
+    0,
+    1,
+    1,
+    1,
+    0,
+    1,
+    1, //
+];
+
+fn is_allowed(parent: usize, kind: u64) -> bool
+    requires { ⌜ parent < 5 ⌝ }
+    ensures { λ r. ⌜ r ≡ among kind (typesUnder parent) ⌝ }
+{
+    if 6 < kind {
+        return false;
+    }
+    let i = parent * 7 + kind as usize;
+    ALLOWED[i] == 1
+}
+
+// A timed dosage as far as its type: 10 where the type may not stand under its parent.
+fn open_timed(text: &[u8], at: usize, parent: usize, used: Used) -> Opened
+    requires { ⌜ (parent < 5) × (at ≤ length (now text)) ⌝ }
+    ensures { λ r. ⌜ ((p : Place) (ms : Members) → At (now (text .entry)) at (object p ms) → OpensUnder parent (now (text .entry)) at used r (entriesOf ms)) ⌝ }
+    ensures { λ r. ⌜ Stands parent used r ⌝ }
+{
+    let o = opened::open_typed(text, at, 6);
+    if o.refused {
+        return o;
+    }
+    let slots = o.slots;
+    if !is_allowed(parent, o.kind) {
+        return opened::refused(10, slots[T]);
+    }
+    if opened::is_full(used) {
+        return opened::refused(15, at);
+    }
+    o
+}
+
+fn dosage_only(text: &[u8], at: usize, o: Opened, used: Used, words: &mut [u64]) -> Visit
+    requires { ⌜ Ready (now words) used × (used .records < 64) × (at ≤ length (now text)) ⌝ }
+    ensures { λ r. ⌜ ((ts : List ℕ) → VisitsBody (aTimed ts) 1 TimedRows (now (text .entry)) at o used (now (words .entry)) r (now (words .exit))) ⌝ }
+    ensures { λ r. ⌜ Kept 1 (now (words .entry)) used r (now (words .exit)) ⌝ }
+{
+    let slots = o.slots;
+    if let Unknown::At(q) = names::unknown_name(text, at, o.members, slots, &DOSAGE_ONLY) {
+        return Visit::Refused(5, q);
+    }
+    let r = dosage::read_below(text, at, slots[DO], used, words);
+    let Visit::Done(done) = r else {
+        return r;
+    };
+    rows::above(words, used, done, 6, 0, 0, 0, 0)
+}
+
+fn times(text: &[u8], at: usize, o: Opened, used: Used, words: &mut [u64]) -> Visit
+    requires { ⌜ Ready (now words) used × (used .records < 64) × (at ≤ length (now text)) ⌝ }
+    ensures { λ r. ⌜ ((ts : List ℕ) → VisitsBody (aTimed ts) 2 TimedRows (now (text .entry)) at o used (now (words .entry)) r (now (words .exit))) ⌝ }
+    ensures { λ r. ⌜ Kept 1 (now (words .entry)) used r (now (words .exit)) ⌝ }
+{
+    let slots = o.slots;
+    if let Unknown::At(q) = names::unknown_name(text, at, o.members, slots, &TIMES) {
+        return Visit::Refused(5, q);
+    }
+    let f = field::list_field(text, at, slots[TS]);
+    let Found::At(l) = f else {
+        return up_found(f);
+    };
+    let r = application::read_times(text, l, rows::one_more(used), words);
+    let Visit::Done(done) = r else {
+        return r;
+    };
+    rows::above(words, used, done, 7, 0, 0, 0, 0)
+}
+
+fn day_segments(text: &[u8], at: usize, o: Opened, used: Used, words: &mut [u64]) -> Visit
+    requires { ⌜ Ready (now words) used × (used .records < 64) × (at ≤ length (now text)) ⌝ }
+    ensures { λ r. ⌜ ((ts : List ℕ) → VisitsBody (aTimed ts) 3 TimedRows (now (text .entry)) at o used (now (words .entry)) r (now (words .exit))) ⌝ }
+    ensures { λ r. ⌜ Kept 1 (now (words .entry)) used r (now (words .exit)) ⌝ }
+{
+    let slots = o.slots;
+    if let Unknown::At(q) = names::unknown_name(text, at, o.members, slots, &DAY_SEGMENTS) {
+        return Visit::Refused(5, q);
+    }
+    let f = field::list_field(text, at, slots[SS]);
+    let Found::At(l) = f else {
+        return up_found(f);
+    };
+    let r = application::read_segments(text, l, rows::one_more(used), words);
+    let Visit::Done(done) = r else {
+        return r;
+    };
+    rows::above(words, used, done, 8, 0, 0, 0, 0)
+}
+
+fn interval(text: &[u8], at: usize, o: Opened, used: Used, words: &mut [u64]) -> Visit
+    requires { ⌜ Ready (now words) used × (used .records < 64) × (at ≤ length (now text)) ⌝ }
+    ensures { λ r. ⌜ ((ts : List ℕ) → VisitsBody (aTimed ts) 6 TimedRows (now (text .entry)) at o used (now (words .entry)) r (now (words .exit))) ⌝ }
+    ensures { λ r. ⌜ Kept 1 (now (words .entry)) used r (now (words .exit)) ⌝ }
+{
+    let slots = o.slots;
+    if let Unknown::At(q) = names::unknown_name(text, at, o.members, slots, &INTERVAL) {
+        return Visit::Refused(5, q);
+    }
+    let r = dosage::read_below(text, at, slots[DO], used, words);
+    let Visit::Done(done) = r else {
+        return r;
+    };
+    let f = field::integer_field(text, at, slots[MI_DU], 1, 99999);
+    let Field::Is(du) = f else {
+        return up(f);
+    };
+    let f = field::integer_field(text, at, slots[MI_DU_U], 1, 7);
+    let Field::Is(unit) = f else {
+        return up(f);
+    };
+    rows::above(words, used, done, 11, du, unit, 0, 0)
+}
+
+// Types 1, 2 and 3.
+fn plain_timed(text: &[u8], at: usize, o: Opened, used: Used, words: &mut [u64]) -> Visit
+    requires { ⌜ Ready (now words) used × (used .records < 64) × (at ≤ length (now text)) × (1 ≤ o .kind) × (o .kind ≤ 3) ⌝ }
+    ensures { λ r. ⌜ ((ts : List ℕ) → VisitsBody (aTimed ts) (o .kind) TimedRows (now (text .entry)) at o used (now (words .entry)) r (now (words .exit))) ⌝ }
+    ensures { λ r. ⌜ Kept 1 (now (words .entry)) used r (now (words .exit)) ⌝ }
+{
+    let kind = o.kind;
+    match kind {
+        1 => dosage_only(text, at, o, used, words),
+        2 => times(text, at, o, used, words),
+        _ => day_segments(text, at, o, used, words),
+    }
+}
+
+// A timed dosage under WeekDays or DaysOfMonth.
+fn read_under_days(text: &[u8], brace: usize, v: usize, used: Used, words: &mut [u64]) -> Visit
+    requires { ⌜ Ready (now words) used × (brace ≤ length (now text)) ⌝ }
+    ensures { λ r. ⌜ VisitsNeeded (aTimed underDays) TimedRows (now (text .entry)) brace v used (now (words .entry)) r (now (words .exit)) ⌝ }
+    ensures { λ r. ⌜ Kept 1 (now (words .entry)) used r (now (words .exit)) ⌝ }
+{
+    let f = field::object_field(text, brace, v);
+    let Found::At(at) = f else {
+        return up_found(f);
+    };
+    let o = open_timed(text, at, UNDER_DAYS, used);
+    if o.refused {
+        return Visit::Refused(o.number, o.place);
+    }
+    plain_timed(text, at, o, used, words)
+}
+
+fn week_days(text: &[u8], at: usize, o: Opened, used: Used, words: &mut [u64]) -> Visit
+    requires { ⌜ Ready (now words) used × (used .records < 64) × (at ≤ length (now text)) ⌝ }
+    ensures { λ r. ⌜ ((ts : List ℕ) → VisitsBody (aTimed ts) 4 TimedRows (now (text .entry)) at o used (now (words .entry)) r (now (words .exit))) ⌝ }
+    ensures { λ r. ⌜ Kept 1 (now (words .entry)) used r (now (words .exit)) ⌝ }
+{
+    let slots = o.slots;
+    if let Unknown::At(q) = names::unknown_name(text, at, o.members, slots, &WEEK_DAYS) {
+        return Visit::Refused(5, q);
+    }
+    let f = days::week_days(text, at, slots[WDS]);
+    let Field::Is(set) = f else {
+        return up(f);
+    };
+    let r = read_under_days(text, at, slots[TDO], rows::one_more(used), words);
+    let Visit::Done(done) = r else {
+        return r;
+    };
+    rows::above(words, used, done, 9, set, 0, 0, 0)
+}
+
+fn days_of_month(text: &[u8], at: usize, o: Opened, used: Used, words: &mut [u64]) -> Visit
+    requires { ⌜ Ready (now words) used × (used .records < 64) × (at ≤ length (now text)) ⌝ }
+    ensures { λ r. ⌜ ((ts : List ℕ) → VisitsBody (aTimed ts) 5 TimedRows (now (text .entry)) at o used (now (words .entry)) r (now (words .exit))) ⌝ }
+    ensures { λ r. ⌜ Kept 1 (now (words .entry)) used r (now (words .exit)) ⌝ }
+{
+    let slots = o.slots;
+    if let Unknown::At(q) = names::unknown_name(text, at, o.members, slots, &DAYS_OF_MONTH) {
+        return Visit::Refused(5, q);
+    }
+    let f = days::month_days(text, at, slots[DOMS]);
+    let Field::Is(set) = f else {
+        return up(f);
+    };
+    let r = read_under_days(text, at, slots[TDO], rows::one_more(used), words);
+    let Visit::Done(done) = r else {
+        return r;
+    };
+    rows::above(words, used, done, 10, set, 0, 0, 0)
+}
+
+// The timed dosage that must stand at v in the object at `brace`, under this parent.
+pub(crate) fn read_timed(
+    text: &[u8],
+    brace: usize,
+    v: usize,
+    parent: usize,
+    used: Used,
+    words: &mut [u64],
+) -> Visit
+    requires { ⌜ Ready (now words) used × (brace ≤ length (now text)) × (parent < 5) ⌝ }
+    ensures { λ r. ⌜ VisitsNeeded (aTimed (typesUnder parent)) TimedRows (now (text .entry)) brace v used (now (words .entry)) r (now (words .exit)) ⌝ }
+    ensures { λ r. ⌜ Kept 1 (now (words .entry)) used r (now (words .exit)) ⌝ }
+{
+    let f = field::object_field(text, brace, v);
+    let Found::At(at) = f else {
+        return up_found(f);
+    };
+    let o = open_timed(text, at, parent, used);
+    if o.refused {
+        return Visit::Refused(o.number, o.place);
+    }
+    let kind = o.kind;
+    match kind {
+        4 => week_days(text, at, o, used, words),
+        5 => days_of_month(text, at, o, used, words),
+        6 => interval(text, at, o, used, words),
+        _ => plain_timed(text, at, o, used, words),
+    }
+}

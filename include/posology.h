@@ -1,0 +1,95 @@
+/* ChMed23A posologies (eMediplan, "Posology" 2.1) read and written from C.
+ *
+ * The three functions are proved: for every input, the number that is returned, the place, and each byte of the lent buffers are those that
+ * document 01 names (docs/PROMISES.md). They allocate nothing, keep nothing between calls and call nothing of the C library; what they are
+ * lent they use until they return, and not after. Calls in different threads don't meet, as long as no buffer that one of them writes is
+ * another's.
+ *
+ * What the caller sees to, since C can't say it:
+ *   - no pointer is NULL, not even where the length beside it is 0, and each leads to as many bytes as that length says; `place` is
+ *     aligned as a uint64_t is;
+ *   - a buffer that is written (`strings`, `table`, `out`, `*place`) shares no byte with any other buffer of the call;
+ *   - the calling thread has 64 KB of stack left (about 30 KB are used: measured, not proved).
+ *
+ * Nothing else is asked. Any bytes may be in any buffer, a length may be any, and a use, too, is tested.
+ */
+#ifndef POSOLOGY_H
+#define POSOLOGY_H
+
+#include <stddef.h>
+#include <stdint.h>
+
+#ifdef __cplusplus
+extern "C" {
+#endif
+
+/* The size of the area that a table lies in (docs/AREA.md): 410 numbers of 8 bytes, the least significant first. */
+#define POSOLOGY_TABLE_BYTES 3280
+
+/* The most text that a table can name: a longer `strings` buffer is used up to here. */
+#define POSOLOGY_STRINGS_BYTES 2048
+
+/* What a posology is for. */
+enum posology_use {
+    POSOLOGY_PLAN = 1,
+    POSOLOGY_PRESCRIPTION = 3
+};
+
+/* What a call returns (document 01, "Answers by number"); behind each, what `*place` is. */
+enum posology_answer {
+    POSOLOGY_DONE = 0,          /* taken or written: see each function */
+    POSOLOGY_TOO_LONG = 1,      /* text longer than 32,768 bytes: 32,768 */
+    POSOLOGY_NO_JSON = 2,       /* not one JSON object in UTF-8: the first byte with which the bytes so far begin no such text, or the length */
+    POSOLOGY_TOO_DEEP = 3,      /* the 21st { or [ open at once: that byte */
+    POSOLOGY_WRONG_KIND = 4,    /* wrong JSON kind: the value */
+    POSOLOGY_UNKNOWN_NAME = 5,  /* name not known in this object: its quote */
+    POSOLOGY_NAME_TWICE = 6,    /* name twice in an object: the second's quote */
+    POSOLOGY_MISSING = 7,       /* required member missing: the object's brace */
+    POSOLOGY_NOT_CARRIED = 8,   /* number with an exponent, over 18 characters, or not in whole millionths: the value */
+    POSOLOGY_OUT_OF_RANGE = 9,  /* outside its range or value set: the value */
+    POSOLOGY_NOT_UNDER = 10,    /* type not allowed under its parent: the value of t */
+    POSOLOGY_WRONG_COUNT = 11,  /* wrong count in ds; empty sos, wds, doms; a day twice: the list's bracket */
+    POSOLOGY_AGAINST = 12,      /* aTo, aMax or dtTo against its partner: the object's brace */
+    POSOLOGY_NO_DATE = 13,      /* not a date or time: the value */
+    POSOLOGY_SEQUENCES = 14,    /* a fourth sequence inside three: the value of t */
+    POSOLOGY_RECORDS_FULL = 15, /* a 65th record: the object's brace */
+    POSOLOGY_TEXT_FULL = 16,    /* a string past the text room: the value */
+    POSOLOGY_WRONG_USE = 17,    /* use neither 1 nor 3: 0 */
+    POSOLOGY_NO_TABLE = 18,     /* writer: bytes that lay out no table, or a table and strings that no text reads to for this use: 0 */
+    POSOLOGY_WRONG_SIZE = 19,   /* area of another size: POSOLOGY_TABLE_BYTES. writer: text longer than `out`: the length needed */
+    POSOLOGY_ONLY_BLANKS = 255  /* posology_next: only blanks remain: the run's length */
+};
+
+/* Where numbers stand in the area, counted in numbers: number i is bytes 8 * i to 8 * i + 7 (docs/AREA.md). */
+enum posology_number {
+    POSOLOGY_FROM = 0,          /* seven: form (0 absent, 1 bare, 2 with a time), year, month, day, second, west, zone in minutes */
+    POSOLOGY_TO = 7,            /* the same */
+    POSOLOGY_RESERVE = 14,      /* 0 or 1 */
+    POSOLOGY_MEAL = 15,         /* 1 to 6, or 0 */
+    POSOLOGY_UNIT = 16,         /* start and length in `strings`, as of the next three */
+    POSOLOGY_INSTRUCTIONS = 18,
+    POSOLOGY_ROA = 20,
+    POSOLOGY_MOA = 22,
+    POSOLOGY_COUNT = 24,        /* the records that are used */
+    POSOLOGY_TEXT = 25,         /* the bytes of `strings` that are used */
+    POSOLOGY_RECORD = 26,       /* 64 records of six: tag, records below, four values */
+    POSOLOGY_RECORD_NUMBERS = 6
+};
+
+/* Reads one posology text. 0: `table` is its table, the first bytes of `strings` its strings, and *place the text's length.
+ * Any other number: both buffers are as they were lent. */
+uint64_t posology_read(const uint8_t *text, size_t text_len, uint64_t use, uint8_t *strings, size_t strings_len, uint8_t *table, size_t table_len, uint64_t *place);
+
+/* Reads the first posology of a run. 0: as posology_read, and *place is the place behind the posology's last byte, where the next call begins.
+ * Any other number: both buffers are as they were lent. */
+uint64_t posology_next(const uint8_t *run, size_t run_len, uint64_t use, uint8_t *strings, size_t strings_len, uint8_t *table, size_t table_len, uint64_t *place);
+
+/* Writes a table's plain text. 0: it is the first *place bytes of `out`, and those behind are as they were lent.
+ * Any other number: `out` is as it was lent. */
+uint64_t posology_write(const uint8_t *table, size_t table_len, const uint8_t *strings, size_t strings_len, uint64_t use, uint8_t *out, size_t out_len, uint64_t *place);
+
+#ifdef __cplusplus
+}
+#endif
+
+#endif
