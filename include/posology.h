@@ -1,8 +1,8 @@
 /* ChMed23A posologies (eMediplan, "Posology" 2.1) read and written from C.
  *
  * The three functions are proved: for every input, the number that is returned, the place, and each byte of the lent buffers are those that
- * document 01 names (docs/PROMISES.md). They allocate nothing, keep nothing between calls and call nothing of the C library; what they are
- * lent they use until they return, and not after. Calls in different threads don't meet, as long as no buffer that one of them writes is
+ * document 01 names (docs/PROMISES.md). They allocate nothing, keep nothing between calls and call nothing of the C library but memcpy and
+ * memset, which the compiler puts in; what they are lent they use until they return, and not after. Calls in different threads don't meet, as long as no buffer that one of them writes is
  * another's.
  *
  * What the caller sees to, since C can't say it:
