@@ -7,10 +7,11 @@ use Rattle.document.specs.declared.table.Date.the-variants as D
 use Rattle.document.specs.declared.table.Dosage.the-variants as S
 use Rattle.document.specs.declared.table.Kind.{Kind}
 use Rattle.document.specs.declared.table.Kind.the-variants as K
-use Rattle.area.specs.Area.{numberIn, groups, numbersIn, u8, u16, u32, kinds, kindOf, recordIn, dateOf, dateIn, textIn, headIn, tableOfNumbers, tableIn}
+use Rattle.kinds.specs.Kinds.{u8, u16, u32, kinds, kindOf, recordIn, groups}
+use Rattle.area.specs.Area.{numberIn, numbersIn, dateOf, dateIn, textIn, headIn, tableOfNumbers, tableIn}
 use Rattle.area.specs.Fits.{U8, U16, U32, U64, TextFits, DayFits, DateFits, KindFits, AllFit, Fitting, AllBytes}
 use Rattle.area.proofs.Bytes.{room}
-use Rattle.area.proofs.Fill.{groups-length}
+use Rattle.kinds.proofs.Fill.{groups-length}
 use Rattle.area.proofs.Parts.{AllBelow}
 
 behind : (n : ℕ) (bytes : List ℕ) → AllBytes bytes → AllBytes (drop n bytes)

@@ -3,16 +3,15 @@ use Prim.Native.Nat.{ℕ, _+_, _*_}
 use mathlib.Core.Path.{_≡_, refl, sym, ap, _∙_}
 use mathlib.Core.List.{List, [], _∷_, _++_}
 use native.Mathlib.Omega.{arith}
-use lib.ListN.{length}
+use lib.ListN.{length, length-append}
 use lib.Seq.{sets}
-use Rattle.document.specs.Words.{allWords, rows, dateWords, headWords, tableWords}
+use Rattle.document.specs.Words.{dateWords, headWords}
 use Rattle.document.specs.declared.table.Date.{Date}
 use Rattle.document.specs.declared.table.Date.the-variants as D
 use Rattle.document.specs.declared.table.Head.{Head}
-use Rattle.document.specs.declared.table.Table.{Table}
-use Rattle.area.specs.Area.{allBytes, areaOf}
+use Rattle.area.specs.Area.{allBytes}
 use Rattle.area.proofs.Bytes.{sets-append, sets-whole, all-length, all-append}
-use Rattle.area.proofs.Parts.{date-length, table-length}
+use Rattle.area.proofs.Parts.{date-length}
 
 date-front : (d : Date) (k r : List ℕ) → dateWords d k ++ r ≡ dateWords d (k ++ r)
 date-front D.Absent k r = refl
@@ -25,16 +24,15 @@ head-front h k r = date-front (h .from) _ r ∙ ap (dateWords (h .from)) (date-f
 head-length : (h : Head) (m n : ℕ) → length (headWords h (m ∷ n ∷ [])) ≡ 26
 head-length h m n = date-length (h .from) _ ∙ ap (λ (i : ℕ). i + 7) (date-length (h .to) _)
 
-pub laid-out : (t : Table) (a b c hs rs : List ℕ) → length a ≡ 3280 → length (t .records) ≡ 64 → hs ≡ headWords (t .head) (t .count ∷ t .text ∷ []) → rs ≡ rows (allWords (t .records))
-    → b ≡ sets a 0 (allBytes hs) → c ≡ sets b 208 (allBytes rs) → c ≡ areaOf t
-unfolding areaOf tableWords
-laid-out t a b c hs rs n m e f p q =
-    let all : hs ++ rs ≡ tableWords t = ap (λ (l : List ℕ). l ++ rs) e ∙ ap (λ (l : List ℕ). headWords (t .head) (t .count ∷ t .text ∷ []) ++ l) f ∙ head-front (t .head) _ _ in
-    let front : length (allBytes hs) ≡ 208 = all-length hs ∙ ap (λ (l : List ℕ). length l * 8) e ∙ ap (λ (i : ℕ). i * 8) (head-length (t .head) (t .count) (t .text)) in
-    let behind : 208 ≡ 0 + length (allBytes hs) = omega arith in
-    let whole : length (allBytes (tableWords t)) ≡ length a = all-length (tableWords t) ∙ ap (λ (i : ℕ). i * 8) (table-length t m) ∙ sym n in
-    q ∙ ap (λ (l : List ℕ). sets l 208 (allBytes rs)) p
-    ∙ ap (λ (i : ℕ). sets (sets a 0 (allBytes hs)) i (allBytes rs)) behind
-    ∙ sym (sets-append (allBytes hs) (allBytes rs) a 0)
-    ∙ ap (sets a 0) (sym (all-append hs rs) ∙ ap allBytes all)
-    ∙ sets-whole (allBytes (tableWords t)) a whole
+pub laid-out : (h : Head) (m n : ℕ) (ws a b c hs : List ℕ) → length a ≡ 3280 → length ws ≡ 384 → hs ≡ headWords h (m ∷ n ∷ []) → b ≡ sets a 0 (allBytes hs) → c ≡ sets b 208 (allBytes ws) → c ≡ allBytes (headWords h (m ∷ n ∷ ws))
+laid-out h m n ws a b c hs l k e p q =
+    let all : hs ++ ws ≡ headWords h (m ∷ n ∷ ws) = ap (λ (x : List ℕ). x ++ ws) e ∙ head-front h _ _ in
+    let front : length hs ≡ 26 = ap length e ∙ head-length h m n in
+    let behind : 208 ≡ 0 + length (allBytes hs) = omega (arith, all-length hs) in
+    let whole : length (allBytes (hs ++ ws)) ≡ length a = all-length (hs ++ ws) ∙ ap (λ (i : ℕ). i * 8) (length-append hs ws) ∙ omega arith in
+    q ∙ ap (λ (x : List ℕ). sets x 208 (allBytes ws)) p
+    ∙ ap (λ (i : ℕ). sets (sets a 0 (allBytes hs)) i (allBytes ws)) behind
+    ∙ sym (sets-append (allBytes hs) (allBytes ws) a 0)
+    ∙ ap (sets a 0) (sym (all-append hs ws))
+    ∙ sets-whole (allBytes (hs ++ ws)) a whole
+    ∙ ap allBytes all

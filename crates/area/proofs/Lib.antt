@@ -1,6 +1,5 @@
 pub mod AreaBack
 pub mod Bytes
-pub mod Fill
 pub mod InFits
 pub mod Laid
 pub mod Numbers

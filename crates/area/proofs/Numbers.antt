@@ -5,7 +5,8 @@ use mathlib.Core.List.{List, [], _∷_}
 use lib.ListN.{length, drop}
 use Rattle.document.specs.Words.{tableWords}
 use Rattle.document.specs.declared.table.Table.{Table}
-use Rattle.area.specs.Area.{bytesOf, allBytes, areaOf, numberIn, groups, numbersIn, tableOfNumbers, tableIn}
+use Rattle.kinds.specs.Kinds.{groups}
+use Rattle.area.specs.Area.{bytesOf, allBytes, areaOf, numberIn, numbersIn, tableOfNumbers, tableIn}
 use Rattle.area.specs.Fits.{Fitting}
 use Rattle.area.proofs.Bytes.{number-back, bytes-behind}
 use Rattle.area.proofs.Parts.{AllBelow, numbers-one, table-below, table-length}

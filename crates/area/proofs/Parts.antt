@@ -16,7 +16,8 @@ use Rattle.document.specs.declared.table.Kind.{Kind}
 use Rattle.document.specs.declared.table.Kind.the-variants as K
 use Rattle.document.specs.declared.table.Record.{Record}
 use Rattle.document.specs.declared.table.Table.{Table}
-use Rattle.area.specs.Area.{kindOf, recordIn, dateOf, dateIn, headIn, groups, tableOfNumbers}
+use Rattle.kinds.specs.Kinds.{kindOf, recordIn, groups}
+use Rattle.area.specs.Area.{dateOf, dateIn, headIn, tableOfNumbers}
 use Rattle.area.specs.Fits.{U8, U16, U32, U64, TextFits, DateFits, KindFits, AllFit, Fitting}
 
 cut8 : (x : ℕ) → U8 x → x % 256 ≡ x

@@ -9,12 +9,9 @@ use Rattle.document.specs.Words.{tableWords}
 use Rattle.document.specs.declared.table.Text.{Text}
 use Rattle.document.specs.declared.table.Date.{Date}
 use Rattle.document.specs.declared.table.Date.the-variants as D
-use Rattle.document.specs.declared.table.Dosage.the-variants as S
-use Rattle.document.specs.declared.table.Kind.{Kind}
-use Rattle.document.specs.declared.table.Kind.the-variants as K
-use Rattle.document.specs.declared.table.Record.{Record}
 use Rattle.document.specs.declared.table.Head.{Head}
 use Rattle.document.specs.declared.table.Table.{Table}
+use Rattle.kinds.specs.Kinds.{u8, u16, u32, recordIn, groups}
 
 abbrev pub areaBytes : ℕ
 areaBytes = 3280
@@ -38,56 +35,9 @@ unfoldable pub numberIn : ℕ → List ℕ → ℕ
 numberIn zero bytes = 0
 numberIn (suc n) bytes = getD bytes 0 0 + 256 * numberIn n (drop 1 bytes)
 
--- What is made of each of n groups of so many numbers, one behind the other.
-unfoldable pub groups : {A : Type 0} → ℕ → (List ℕ → A) → ℕ → List ℕ → List A
-groups size f zero s = []
-groups size f (suc n) s = f s ∷ groups size f n (drop size s)
-
 unfoldable pub numbersIn : List ℕ → List ℕ
 unfolding numberIn groups
 numbersIn bytes = groups 8 (numberIn 8) 410 bytes
-
--- A value as its type holds it: what the type cannot hold is cut, so that it lies otherwise than it was read.
-abbrev pub u8 : ℕ → ℕ
-u8 x = x % 256
-
-abbrev pub u16 : ℕ → ℕ
-u16 x = x % 65536
-
-abbrev pub u32 : ℕ → ℕ
-u32 x = x % 0x100000000
-
--- The kinds by their tags, in front of the last.
-abbrev pub kinds : ℕ → ℕ → ℕ → ℕ → List Kind
-kinds a b c d =
-    K.None
-    ∷ K.Daily a b c d
-    ∷ K.FreeText (record { start = a; len = b })
-    ∷ K.Single
-    ∷ K.Cyclic (u8 a) (u32 b) (u32 c)
-    ∷ K.Sequence
-    ∷ K.DosageOnly
-    ∷ K.Times
-    ∷ K.DaySegments
-    ∷ K.WeekDays (u32 a)
-    ∷ K.DaysOfMonth (u32 a)
-    ∷ K.Interval (u32 a) (u8 b)
-    ∷ K.Dosage (S.Simple a)
-    ∷ K.Dosage (S.FromTo a b (u8 c) (u32 d))
-    ∷ K.Dosage (S.Range a b)
-    ∷ K.PosologySequence (u32 a) (u8 b)
-    ∷ K.Pause (u32 a) (u8 b)
-    ∷ K.AtTime (u32 a)
-    ∷ []
-
--- A tag that no kind has is read as the last, which lies otherwise.
-unfoldable pub kindOf : ℕ → ℕ → ℕ → ℕ → ℕ → Kind
-kindOf tag a b c d = getD (kinds a b c d) tag (K.InSegment (u8 a))
-
--- The record of the six numbers in front.
-unfoldable pub recordIn : List ℕ → Record
-unfolding kindOf
-recordIn ws = record { kind = kindOf (getD ws 0 0) (getD ws 2 0) (getD ws 3 0) (getD ws 4 0) (getD ws 5 0); below = getD ws 1 0 }
 
 -- A date by its form: absent, bare, or with a time.
 unfoldable pub dateOf : ℕ → ℕ → ℕ → ℕ → ℕ → ℕ → ℕ → Date

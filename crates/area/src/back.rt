@@ -1,5 +1,4 @@
 // The table that an area's bytes lay out.
-use crate::kind;
 use crate::laying;
 use crate::number;
 use document::table::Date;
@@ -12,7 +11,8 @@ use document::table::Text;
 ghost use mathlib.Core.Path.{_≡_};
 ghost use Prim.Native.Nat.{_*_, _<_};
 ghost use lib.ListN.{drop};
-ghost use Rattle.area.specs.Area.{groups, numbersIn, recordIn, dateIn, textIn, headIn, tableIn, isArea};
+ghost use Rattle.kinds.specs.Kinds.{groups, recordIn};
+ghost use Rattle.area.specs.Area.{numbersIn, dateIn, textIn, headIn, tableIn, isArea};
 
 const NUMBERS: usize = 410;
 
@@ -79,17 +79,6 @@ fn head_in(n: &[u64; NUMBERS]) -> Head
     }
 }
 
-fn record_at(n: &[u64; NUMBERS], i: usize) -> Record
-    requires { ⌜ i < 64 ⌝ }
-    ensures { λ r. ⌜ r ≡ recordIn (drop (i * 6) (drop 26 (now (n .entry)))) ⌝ }
-{
-    let at = 26 + i * 6;
-    Record {
-        kind: kind::kind_of(n[at], n[at + 2], n[at + 3], n[at + 4], n[at + 5]),
-        below: n[at + 1] as usize,
-    }
-}
-
 fn records_in(n: &[u64; NUMBERS]) -> [Record; RECORDS]
     ensures { λ r. ⌜ r ≡ groups 6 recordIn 64 (drop 26 (now (n .entry))) ⌝ }
 {
@@ -99,7 +88,7 @@ fn records_in(n: &[u64; NUMBERS]) -> [Record; RECORDS]
     }; RECORDS];
     let mut i = 0;
     while i < RECORDS {
-        records[i] = record_at(n, i);
+        records[i] = kinds::record_at(n, 26 + i * 6);
         i += 1;
     }
     records

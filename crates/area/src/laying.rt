@@ -129,16 +129,21 @@ fn lay_numbers(numbers: &[u64], area: &mut [u8], from: usize)
     }
 }
 
-// Lays the table out; an area of another size is left as it is.
-pub fn lay(t: Table, area: &mut [u8])
-    ensures { λ _. ⌜ now (area .exit) ≡ cond (eqb (length (now (area .entry))) areaBytes) (areaOf t) (now (area .entry)) ⌝ }
+// Lays a table out by its head, its two counts and the words of its records; an area of another size is left as it is.
+pub fn lay_words(h: Head, count: usize, text: usize, words: &[u64; 384], area: &mut [u8])
+    ensures { λ _. ⌜ now (area .exit) ≡ cond (eqb (length (now (area .entry))) areaBytes) (allBytes (headWords h (count ∷ text ∷ now (words .entry)))) (now (area .entry)) ⌝ }
 {
     if area.len() != AREA {
         return;
     }
-    let h = t.head;
-    let head = head_numbers(h, t.count, t.text);
-    let records = words::table_words(t);
+    let head = head_numbers(h, count, text);
     lay_numbers(&head, area, 0);
-    lay_numbers(&records, area, 208);
+    lay_numbers(words, area, 208);
+}
+
+pub fn lay(t: Table, area: &mut [u8])
+    ensures { λ _. ⌜ now (area .exit) ≡ cond (eqb (length (now (area .entry))) areaBytes) (areaOf t) (now (area .entry)) ⌝ }
+{
+    let records = words::table_words(t);
+    lay_words(t.head, t.count, t.text, &records, area);
 }

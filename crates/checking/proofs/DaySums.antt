@@ -10,41 +10,15 @@ use borrow.Author.Tests.{leb-true, ltb-true, lt-ltb, le-leb, eqb-true, eqb-false
 use Rattle.document.specs.Visit.{isEmpty}
 use Rattle.document.specs.Valid.{climbs, isDays}
 use Rattle.document.specs.Table.{daySet}
-
--- The bits counted from a day on.
-abbrev from : ℕ → List ℕ → ℕ
-from day [] = 0
-from day (d ∷ ds) = 2 ^ (d - day) + from day ds
-
-pub left-of : (a b : Bool) → (a && b) ≡ true → a ≡ true
-left-of true b e = refl
-left-of false b e = absurd (false≢true e)
-
-pub right-of : (a b : Bool) → (a && b) ≡ true → b ≡ true
-right-of true b e = e
-right-of false b e = absurd (false≢true e)
-
-together : (a b : Bool) → a ≡ true → b ≡ true → (a && b) ≡ true
-together true b e f = f
-together false b e f = absurd (false≢true e)
-
-one-lower : (day d : ℕ) → day < d → 2 ^ (d - day) ≡ 2 * 2 ^ (d - (day + 1))
-one-lower day d h = let e : d - day ≡ suc (d - (day + 1)) = omega arith in ap (λ (n : ℕ). 2 ^ n) e ∙ pow-succ' 2 (d - (day + 1))
-
-halves : (day least hi : ℕ) (ds : List ℕ) → day ≤ least → climbs least hi ds ≡ true → from day ds ≡ 2 * from (day + 1) ds
-halves day least hi [] h c = refl
-halves day least hi (d ∷ ds) h c =
-    let up : least < d = ltb-true least d (left-of (ltb least d) (leb d hi) (left-of (ltb least d && leb d hi) (climbs d hi ds) c)) in
-    let a : 2 ^ (d - day) ≡ 2 * 2 ^ (d - (day + 1)) = one-lower day d (omega arith) in
-    let b : from day ds ≡ 2 * from (day + 1) ds = halves day d hi ds (omega arith) (right-of (ltb least d && leb d hi) (climbs d hi ds) c) in
-    omega arith
+use Rattle.document.proofs.Good.{and-left, and-right, and-both}
+use Rattle.document.proofs.DaySets.{from, halves, from-one}
 
 lower : (least day hi : ℕ) (ds : List ℕ) → least ≤ day → climbs day hi ds ≡ true → climbs least hi ds ≡ true
 lower least day hi [] h c = refl
 lower least day hi (d ∷ ds) h c =
-    let g = left-of (ltb day d && leb d hi) (climbs d hi ds) c in
-    let up : day < d = ltb-true day d (left-of (ltb day d) (leb d hi) g) in
-    together (ltb least d && leb d hi) (climbs d hi ds) (together (ltb least d) (leb d hi) (lt-ltb least d (omega arith)) (right-of (ltb day d) (leb d hi) g)) (right-of (ltb day d && leb d hi) (climbs d hi ds) c)
+    let g = and-left (ltb day d && leb d hi) (climbs d hi ds) c in
+    let up : day < d = ltb-true day d (and-left (ltb day d) (leb d hi) g) in
+    and-both (and-both (lt-ltb least d (omega arith)) (and-right (ltb day d) (leb d hi) g)) (and-right (ltb day d && leb d hi) (climbs d hi ds) c)
 
 record Some (day least hi set : ℕ) : Type 0 where
   value : List ℕ
@@ -66,7 +40,7 @@ one-day n day least hi set e f r = go (eqb (set % 2) 1) refl
         let z : 2 ^ (day - day) ≡ 1 = let y : day - day ≡ 0 = omega arith in ap (λ (x : ℕ). 2 ^ x) y in
         record {
           value = day ∷ r .value;
-          climbing = together (ltb least day && leb day hi) (climbs day hi (r .value)) (together (ltb least day) (leb day hi) (lt-ltb least day (omega arith)) (le-leb day hi (omega arith))) (r .climbing);
+          climbing = and-both (and-both (lt-ltb least day (omega arith)) (le-leb day hi (omega arith))) (r .climbing);
           sum = omega (arith, twice);
         }
     go false g =
@@ -76,10 +50,6 @@ one-day n day least hi set e f r = go (eqb (set % 2) 1) refl
 some-days : (n day least hi set : ℕ) → day ≡ least + 1 → hi ≡ least + n → set < 2 ^ n → Some day least hi set
 some-days zero day least hi set e f h = record { value = []; climbing = refl; sum = omega arith }
 some-days (suc n) day least hi set e f h = one-day n day least hi set e f (some-days n (day + 1) day hi (set / 2) refl (omega arith) (half n set h))
-
-from-one : (ds : List ℕ) → daySet ds ≡ from 1 ds
-from-one [] = refl
-from-one (d ∷ ds) = ap (λ (m : ℕ). 2 ^ (d - 1) + m) (from-one ds)
 
 -- A set of days, not empty.
 pub record DaysAre (hi set : ℕ) : Type 0 where
@@ -96,7 +66,7 @@ days-are hi set g h =
     let r = some-days hi 1 0 hi set refl (omega arith) h in
     record {
       value = r .value;
-      valid = together (not (isEmpty (r .value))) (climbs 0 hi (r .value)) (not-empty (r .value) (omega (arith, r .sum))) (r .climbing);
+      valid = and-both (not-empty (r .value) (omega (arith, r .sum))) (r .climbing);
       sum = from-one (r .value) ∙ r .sum;
     }
 
@@ -104,18 +74,18 @@ days-are hi set g h =
 sum-below : (n day least hi : ℕ) (ds : List ℕ) → day ≡ least + 1 → hi ≡ least + n → climbs least hi ds ≡ true → from day ds < 2 ^ n
 sum-below zero day least hi [] e f c = omega arith
 sum-below zero day least hi (d ∷ ds) e f c =
-    let g = left-of (ltb least d && leb d hi) (climbs d hi ds) c in
-    let up : least < d = ltb-true least d (left-of (ltb least d) (leb d hi) g) in
-    let most : d ≤ hi = leb-true d hi (right-of (ltb least d) (leb d hi) g) in
+    let g = and-left (ltb least d && leb d hi) (climbs d hi ds) c in
+    let up : least < d = ltb-true least d (and-left (ltb least d) (leb d hi) g) in
+    let most : d ≤ hi = leb-true d hi (and-right (ltb least d) (leb d hi) g) in
     absurd (omega arith)
 sum-below (suc n) day least hi [] e f c = let p : 2 ^ suc n ≡ 2 * 2 ^ n = pow-succ' 2 n in let h = sum-below n (day + 1) day hi [] refl (omega arith) refl in omega arith
 sum-below (suc n) day least hi (d ∷ ds) e f c = go (eqb d day) refl (λ i. sum-below n (day + 1) day hi ds refl (omega arith) i) (λ i. sum-below n (day + 1) day hi (d ∷ ds) refl (omega arith) i)
   where
     v : (ltb least d && leb d hi) ≡ true
-    v = left-of (ltb least d && leb d hi) (climbs d hi ds) c
+    v = and-left (ltb least d && leb d hi) (climbs d hi ds) c
 
     behind : climbs d hi ds ≡ true
-    behind = right-of (ltb least d && leb d hi) (climbs d hi ds) c
+    behind = and-right (ltb least d && leb d hi) (climbs d hi ds) c
 
     p : 2 ^ suc n ≡ 2 * 2 ^ n
     p = pow-succ' 2 n
@@ -128,10 +98,10 @@ sum-below (suc n) day least hi (d ∷ ds) e f c = go (eqb d day) refl (λ i. sum
         let h = k₁ (subst (λ (m : ℕ). climbs m hi ds ≡ true) s behind) in
         omega (arith, p)
     go false i k₁ k₂ =
-        let up : least < d = ltb-true least d (left-of (ltb least d) (leb d hi) v) in
+        let up : least < d = ltb-true least d (and-left (ltb least d) (leb d hi) v) in
         let ne : d ≡ day → ⊥ = eqb-false d day i in
         let lt : day < d = omega arith in
-        let again : climbs day hi (d ∷ ds) ≡ true = together (ltb day d && leb d hi) (climbs d hi ds) (together (ltb day d) (leb d hi) (lt-ltb day d lt) (right-of (ltb least d) (leb d hi) v)) behind in
+        let again : climbs day hi (d ∷ ds) ≡ true = and-both (and-both (lt-ltb day d lt) (and-right (ltb least d) (leb d hi) v)) behind in
         let o : from day (d ∷ ds) ≡ 2 * from (day + 1) (d ∷ ds) = halves day day hi (d ∷ ds) (omega arith) again in
         let h = k₂ again in
         omega (arith, p)
@@ -147,6 +117,6 @@ some-sum (d ∷ ds) e = let h : 1 ≤ 2 ^ (d - 1) = power (d - 1) in omega arith
 pub days-sum : (hi : ℕ) (ds : List ℕ) → isDays hi ds ≡ true → (1 ≤ daySet ds) × (daySet ds < 2 ^ hi)
 days-sum hi ds v =
     let e = from-one ds in
-    let a = some-sum ds (left-of (not (isEmpty ds)) (climbs 0 hi ds) v) in
-    let b = sum-below hi 1 0 hi ds refl (omega arith) (right-of (not (isEmpty ds)) (climbs 0 hi ds) v) in
+    let a = some-sum ds (and-left (not (isEmpty ds)) (climbs 0 hi ds) v) in
+    let b = sum-below hi 1 0 hi ds refl (omega arith) (and-right (not (isEmpty ds)) (climbs 0 hi ds) v) in
     (omega arith, omega arith)

@@ -4,9 +4,9 @@ use mathlib.Core.List.{List}
 use mathlib.Core.Bool.{Bool, true, false, true≢false, false≢true}
 use Prim.Native.Nat.{ℕ, _+_, _≤_, _<_}
 use native.Mathlib.Omega.{arith}
-use lib.Dec.{ltb}
+use lib.Dec.{leb, ltb}
 use lib.ListN.{getD}
-use borrow.Author.Tests.{ltb-true, ltb-false}
+use borrow.Author.Tests.{ltb-true, ltb-false, leb-true, leb-false}
 use Rattle.checking.specs.Checks.{Decides, Row, Rising, DosageAt, simple, fromTo, range, ApplicationAt, ApplicationsAt, none, more, ListedAt, PlainAt, dosageOnly, times, segments, DaysAt, IntervalAt, TimedAt, plain, interval, weekDays, daysOfMonth, SingleAt, CyclicAt, StillAt, daily, single, cyclic}
 
 pub yes-of : {P : Type 0} → P → Decides P true
@@ -14,6 +14,12 @@ yes-of p = record { yes = λ e. p; no = λ e. absurd (true≢false e) }
 
 pub no-of : {P : Type 0} → (P → ⊥) → Decides P false
 no-of f = record { yes = λ e. absurd (false≢true e); no = λ e. f }
+
+pub at-most : {P : Type 0} (a b : ℕ) → (a ≤ b → P) → (P → a ≤ b) → Decides P (leb a b)
+at-most a b f g = record { yes = λ e. f (leb-true a b e); no = λ e p. let far = leb-false a b e in let near = g p in absurd (omega arith) }
+
+pub as-last : {P Q : Type 0} {r : Bool} → (Q → P) → (P → Q) → Decides Q r → Decides P r
+as-last f g d = record { yes = λ e. f (d .yes e); no = λ e p. d .no e (g p) }
 
 module _ {ws : List ℕ} {i : ℕ} where
   pub one-of-dosage : (Row ws i 12 0 0 1 999999999999 0 0 0 0 0 0 → ⊥) → (Rising ws i 13 0 1 7 1 99999 → ⊥) → (Rising ws i 14 1 0 0 0 0 → ⊥) → DosageAt ws i → ⊥

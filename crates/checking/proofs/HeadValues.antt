@@ -21,7 +21,7 @@ use Rattle.document.specs.declared.table.Date.the-variants as D
 use Rattle.document.specs.declared.table.Head.{Head}
 use Rattle.document.proofs.Parts.{all-nine}
 use Rattle.document.proofs.Untabled.{date-back}
-use Rattle.checking.proofs.DaySums.{left-of, right-of}
+use Rattle.document.proofs.Good.{and-left, and-right}
 use Rattle.checking.proofs.Lies.{both}
 use Rattle.checking.proofs.Pieces.{unit-given}
 use Rattle.checking.specs.Readable.{HeadRight}
@@ -48,7 +48,7 @@ valid-meal m h = go (eqb m 0) refl
 
 meal-most : (o : Option ℕ) → ifGiven isMeal o ≡ true → Option·getD o 0 ≤ 6
 meal-most none h = omega arith
-meal-most (some m) h = leb-true m mealCodes (right-of (leb 1 m) (leb m mealCodes) h)
+meal-most (some m) h = leb-true m mealCodes (and-right (leb 1 m) (leb m mealCodes) h)
 
 abbrev headWith : Date → Date → Bool → ℕ → Text → Text → Text → Text → Head
 headWith from to reserve meal unit instructions roa moa = record { from = from; to = to; reserve = reserve; meal = meal; unit = unit; instructions = instructions; roa = roa; moa = moa }
@@ -70,7 +70,7 @@ pub record Parts (purpose : ℕ) (p : Posology) : Type 0 where
 pub valid-parts : (purpose : ℕ) (p : Posology) → valid purpose p ≡ true → Parts purpose p
 unfolding valid validFields
 valid-parts purpose p v =
-    let n = all-nine (ifGiven isDate (p .dtFrom)) (ifGiven isDate (p .dtTo)) (validDetail (p .po) sequencesInside) (ifGiven isMeal (p .relMeal)) (isUnitFor purpose (p .unit)) (ifGiven isText (p .applInstr)) (ifGiven isText (p .roa)) (ifGiven isText (p .moa)) (inOrder (p .dtFrom) (p .dtTo)) (left-of (validFields purpose p) (leb (detailRecords (p .po)) recordsAtMost) v) in
+    let n = all-nine (ifGiven isDate (p .dtFrom)) (ifGiven isDate (p .dtTo)) (validDetail (p .po) sequencesInside) (ifGiven isMeal (p .relMeal)) (isUnitFor purpose (p .unit)) (ifGiven isText (p .applInstr)) (ifGiven isText (p .roa)) (ifGiven isText (p .moa)) (inOrder (p .dtFrom) (p .dtTo)) (and-left (validFields purpose p) (leb (detailRecords (p .po)) recordsAtMost) v) in
     record { from = n .0; to = n .1; detail = n .2; meal = n .3; unit = n .4; instructions = n .5; roa = n .6; moa = n .7; ordered = n .8 }
 
 pub parts-valid : (purpose : ℕ) (p : Posology) → Parts purpose p → detailRecords (p .po) ≤ 64 → valid purpose p ≡ true

@@ -10,17 +10,14 @@ use borrow.Author.Tests.{le-leb}
 use Rattle.document.specs.Posology as P
 use Rattle.document.specs.Posology.{Detail, SequenceObject, SequenceObjects}
 use Rattle.document.specs.Visit.{isEmpty}
-use Rattle.document.specs.Valid.{validDetail, validObject, validObjects, someObject, timedRecords, detailRecords, objectRecords, objectsRecords, joined, detailStrings, objectStrings, objectsStrings}
+use Rattle.document.specs.Valid.{validDetail, validObject, validObjects, someObject, timedRecords, detailRecords, objectRecords, objectsRecords, detailStrings, objectStrings, objectsStrings}
 use Rattle.document.specs.Table.{detailRows, objectRows, objectsRows}
 use Rattle.document.specs.Words.{allWords}
 use Rattle.document.specs.declared.table.Record.{Record}
+use Rattle.document.proofs.Untables.{joined-append}
 use Rattle.words.specs.Standing.{belowAt, aAt, bAt, cAt, dAt, Lies}
 use Rattle.checking.proofs.Lies.{both, moved, single-is, cyclic-is}
 use Rattle.checking.specs.Checks.{Row, Nested, StillAt, daily, single, cyclic, FreeTextAt, DetailAt, still, freeText, sequence, ObjectAt, pause, posology, ObjectsAt, last, more}
-
-pub joined-is : (cs k : List ℕ) → joined cs k ≡ cs ++ k
-joined-is [] k = refl
-joined-is (c ∷ cs) k = ap (λ (s : List ℕ). c ∷ s) (joined-is cs k)
 
 pub not-empty : (cs : List ℕ) → 1 ≤ length cs → not (isEmpty cs) ≡ true
 not-empty [] h = absurd (omega arith)
@@ -98,8 +95,8 @@ module _ {ws buffer : List ℕ} where
         valid = both (not-empty cs (omega (arith, o .b-least))) (p .utf8);
         lies = λ k l. (record { inside = o .inside; tag = o .tag; below = omega arith; a = omega arith; b = sym n; c = omega arith; d = omega arith }, l);
         count = omega arith;
-        taken = λ k. let j = ap length (joined-is cs k) ∙ length-append cs k in omega arith;
-        strings = sym (joined-is cs (drop u buffer) ∙ ap (λ m. cs ++ drop m buffer) e ∙ ap (λ s. cs ++ s) (sym (drop-drop (bAt ws i) text buffer)) ∙ take-append-drop (bAt ws i) (drop text buffer));
+        taken = λ k. let j = ap length (joined-append cs k) ∙ length-append cs k in omega arith;
+        strings = sym (joined-append cs (drop u buffer) ∙ ap (λ m. cs ++ drop m buffer) e ∙ ap (λ s. cs ++ s) (sym (drop-drop (bAt ws i) text buffer)) ∙ take-append-drop (bAt ws i) (drop text buffer));
       }
 
   pause-is : {left i text u : ℕ} → Row ws i 16 0 0 1 99999 1 7 0 0 0 0 → u ≡ text → ObjectIs ws buffer left i text u

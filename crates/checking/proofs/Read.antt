@@ -4,7 +4,7 @@ use mathlib.Core.List.{List, [], _∷_, _++_}
 use mathlib.Core.Bool.{Bool, true, false}
 use Prim.Native.Nat.{ℕ, _+_, _*_, _-_, _≤_}
 use native.Mathlib.Omega.{arith}
-use lib.ListN.{length, drop, replicate, length-append, length-replicate}
+use lib.ListN.{length, drop, replicate, length-replicate}
 use Rattle.document.specs.Posology.{Posology}
 use Rattle.document.specs.Valid.{valid, detailRecords, detailStrings, strings}
 use Rattle.document.specs.Table.{noRecord, lengthOf, detailRows, headOf, tableOf}
@@ -16,7 +16,8 @@ use Rattle.document.specs.declared.table.Head.{Head}
 use Rattle.document.specs.declared.table.Table.{Table}
 use Rattle.document.proofs.WordsBack.{words-one}
 use Rattle.document.proofs.Untables.{detail-append}
-use Rattle.document.proofs.Untabled.{bytesOf, length-of, strings-append, detail-rows, detail-length, unit-text}
+use Rattle.document.proofs.Untabled.{bytesOf, strings-append, detail-rows, detail-length, unit-text}
+use Rattle.document.proofs.Strings.{strings-size}
 use Rattle.document.proofs.Tables.{own-readable}
 use Rattle.words.specs.Standing.{Lies}
 use Rattle.checking.proofs.LiesDetail.{DetailIs, detail-is}
@@ -27,9 +28,6 @@ use Rattle.checking.proofs.Pieces.{PieceIs, piece-is, piece-found, piec
 use Rattle.checking.proofs.HeadValues.{cell-date, cell-meal, valid-meal, same-head, Parts, valid-parts, parts-valid, head-right}
 use Rattle.checking.specs.Checks.{Zeros}
 use Rattle.checking.specs.Readable.{PiecesAt, HeadRight, LaidAt}
-
-strings-length : (p : Posology) → length (strings p) ≡ length (detailStrings (p .po) []) + lengthOf (p .unit) + lengthOf (p .applInstr) + lengthOf (p .roa) + lengthOf (p .moa)
-strings-length p = omega (arith, simp length-append at (ap length (strings-append p [])), length-of (p .unit), length-of (p .applInstr), length-of (p .roa), length-of (p .moa))
 
 -- A value's table and strings are laid as the checks want them.
 module _ (purpose : ℕ) (p : Posology) (n : Parts purpose p) (buffer behind : List ℕ) where
@@ -48,7 +46,7 @@ module _ (purpose : ℕ) (p : Posology) (n : Parts purpose p) (buffer behind : L
       let e₂ : drop u₂ buffer ≡ R = piece-behind buffer (p .applInstr) u₁ R e₁ in
       let e₃ : drop u₃ buffer ≡ M = piece-behind buffer (p .roa) u₂ M e₂ in
       subst (λ x. PiecesAt buffer (headOf p) x (length (strings p))) (sym a)
-      (subst (PiecesAt buffer (headOf p) D) (sym (strings-length p))
+      (subst (PiecesAt buffer (headOf p) D) (sym (strings-size p))
       (record {
         u₁ = u₁;
         u₂ = u₂;
@@ -119,7 +117,7 @@ module _ (ws buffer : List ℕ) (h : Head) (taken u₁ u₂ u₃ text : ℕ) (d 
       same-head h (cell-date (h .from)) (cell-date (h .to)) (cell-meal (h .meal)) (a .cell _ e₀) (b .cell _ e₁) (c .cell _ e₂) (m .cell _ e₃)
 
   value-text : length (strings value) ≡ text
-  value-text = omega (arith, strings-length value, d .taken [], a .sum, b .sum, c .sum, m .sum)
+  value-text = omega (arith, strings-size value, d .taken [], a .sum, b .sum, c .sum, m .sum)
 
   value-strings : buffer ≡ strings value ++ drop text buffer
   value-strings =

@@ -20,6 +20,11 @@ pub record Checks (P : ℕ → Type 0) (c : Checked) : Type 0 where
   pub no : c .good ≡ false → (u : ℕ) → P u → ⊥
   pub only : (u : ℕ) → P u → u ≡ c .text
 
+-- A word within bounds.
+pub record Within (ws : List ℕ) (at least most : ℕ) : Type 0 where
+  pub no-less : least ≤ getD ws at 0
+  pub no-more : getD ws at 0 ≤ most
+
 -- A record with this tag whose other words lie within bounds.
 pub record Row (ws : List ℕ) (i t n₀ n₁ a₀ a₁ b₀ b₁ c₀ c₁ d₀ d₁ : ℕ) : Type 0 where
   pub inside : i < 64

@@ -5,7 +5,7 @@ ghost use Prim.Native.Nat.{_+_, _*_, _<_, _≤_};
 ghost use lib.ListN.{length, take, drop};
 ghost use Rattle.document.specs.Utf8.{isUtf8};
 ghost use Rattle.words.specs.Standing.{belowAt, aAt, bAt};
-ghost use Rattle.checking.specs.Checks.{Decides, Checks, Row, Rising, DosageAt, ApplicationAt, ApplicationsAt, ListedAt, PlainAt, DaysAt, IntervalAt, TimedAt, SingleAt, CyclicAt, StillAt, StringAt, FreeTextAt, DetailAt, ObjectAt, ObjectsAt, SequenceAt, Zeros, Nested};
+ghost use Rattle.checking.specs.Checks.{Within, Decides, Checks, Row, Rising, DosageAt, ApplicationAt, ApplicationsAt, ListedAt, PlainAt, DaysAt, IntervalAt, TimedAt, SingleAt, CyclicAt, StillAt, StringAt, FreeTextAt, DetailAt, ObjectAt, ObjectsAt, SequenceAt, Zeros, Nested};
 
 // The text bytes taken with what was checked; or that it is none.
 pub struct Checked {
@@ -20,6 +20,18 @@ const MOST_BELOW: u64 = 63;
 const MOST_AMOUNT: u64 = 999999999999;
 
 const MOST_INTEGER: u64 = 99999;
+
+// Whether the word there lies from a least to a greatest number.
+fn within(words: &[u64], at: usize, least: u64, most: u64) -> bool
+    requires { ⌜ at < length (now words) ⌝ }
+    ensures { λ r. ⌜ Decides (Within (now (words .entry)) at least most) r ⌝ }
+{
+    let w = words[at];
+    if w < least {
+        return false;
+    }
+    w <= most
+}
 
 // A record at i with this tag: its records below and its four values each from a least to a greatest number.
 fn row(
@@ -44,49 +56,22 @@ fn row(
         return false;
     }
     let at = i * 6;
-    let t = words[at];
-    let n = words[at + 1];
-    let a = words[at + 2];
-    let b = words[at + 3];
-    let c = words[at + 4];
-    let d = words[at + 5];
-    if t < tag {
+    if !within(words, at, tag, tag) {
         return false;
     }
-    if tag < t {
+    if !within(words, at + 1, n0, n1) {
         return false;
     }
-    if n < n0 {
+    if !within(words, at + 2, a0, a1) {
         return false;
     }
-    if n1 < n {
+    if !within(words, at + 3, b0, b1) {
         return false;
     }
-    if a < a0 {
+    if !within(words, at + 4, c0, c1) {
         return false;
     }
-    if a1 < a {
-        return false;
-    }
-    if b < b0 {
-        return false;
-    }
-    if b1 < b {
-        return false;
-    }
-    if c < c0 {
-        return false;
-    }
-    if c1 < c {
-        return false;
-    }
-    if d < d0 {
-        return false;
-    }
-    if d1 < d {
-        return false;
-    }
-    true
+    within(words, at + 5, d0, d1)
 }
 
 // A dosage from a least to a greatest amount, at i.

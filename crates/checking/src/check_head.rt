@@ -9,16 +9,13 @@ use words::table_words;
 ghost use mathlib.Core.Path.{_≡_};
 ghost use mathlib.Core.List.{[], _∷_};
 ghost use mathlib.Core.Bool.{true};
-ghost use Prim.Native.Nat.{_+_, _<_, _≤_};
-ghost use lib.Dec.{leb};
+ghost use Prim.Native.Nat.{_+_, _<_};
 ghost use lib.ListN.{length};
-ghost use Rattle.document.specs.Posology.{Day};
 ghost use Rattle.document.specs.Date.{among, leap, daysIn, isDay, isDate, inOrder};
-ghost use Rattle.document.specs.Valid.{ifGiven, isUse};
+ghost use Rattle.document.specs.Valid.{ifGiven};
 ghost use Rattle.document.specs.Untable.{dateOf};
 ghost use Rattle.checking.specs.Checks.{Decides, Checks};
 ghost use Rattle.checking.specs.Readable.{writtenIn, dayOf, momentIn, PieceAt, PiecesAt, HeadRight, LaidAt};
-ghost use Rattle.document.specs.Words.{allWords, rows};
 ghost use Rattle.document.specs.Write.{readable};
 
 fn is_leap(year: u64) -> bool

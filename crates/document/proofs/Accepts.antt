@@ -1,9 +1,9 @@
 -- A tree is taken as p exactly when it means p, p is valid for the use and p's strings fit the room.
-use mathlib.Core.Path.{_≡_, refl, ap, sym, subst, _∙_}
+use mathlib.Core.Path.{_≡_, subst}
 use mathlib.Core.List.{List, [], _∷_}
-use mathlib.Core.Bool.{Bool, true, false, _&&_}
+use mathlib.Core.Bool.{true}
 use mathlib.Core.Option.{Option, none, some}
-use Prim.Native.Nat.{ℕ, _+_, _-_, _≤_}
+use Prim.Native.Nat.{ℕ, _+_, _-_}
 use native.Mathlib.Omega.{arith}
 use lib.Dec.{leb}
 use lib.ListN.{length}
@@ -11,11 +11,11 @@ use borrow.Author.Tests.{leb-true, le-leb}
 use Rattle.json.specs.Tree.{Tree, object, list, string, number, bool, null}
 use Rattle.document.specs.Posology.{Posology, Detail, daily, freeText, single, cyclic, sequence, SequenceObject, posologySequence, pause, SequenceObjects, noObject, objectThen}
 use Rattle.document.specs.Schema.{aPosology, anObject}
-use Rattle.document.specs.Visit.{Left, Outcome, done, visit, valueOf, recordsAtMost}
+use Rattle.document.specs.Visit.{Left, Outcome, done, visit, recordsAtMost}
 use Rattle.document.specs.Valid.{valid, validFields, detailRecords, joined, given, detailStrings, objectStrings, objectsStrings, strings, Fits}
 use Rattle.document.specs.Spells.{meaningOf, meantMembers, Means}
-use Rattle.document.proofs.Good.{detailText, objectText, objectsText, givenText, posologyText, Takes, Good, and-both, and-left, and-right}
-use Rattle.document.proofs.Sound.{All, Utf8Tree, Sound, tree-sound}
+use Rattle.document.proofs.Good.{detailText, objectText, objectsText, givenText, posologyText, Good, and-both, and-left, and-right}
+use Rattle.document.proofs.Sound.{All, Utf8Tree, tree-sound}
 use Rattle.document.proofs.Complete.{visit-complete, posology-means}
 
 -- How long the strings are.

@@ -1,13 +1,13 @@
 -- What a tree means is accepted, if it is good.
 use mathlib.Core.Path.{_≡_, refl, ap, sym, subst, _∙_}
 use mathlib.Core.List.{List, [], _∷_, _++_}
-use mathlib.Core.Bool.{Bool, true, false, not, _&&_, _||_, cond, true≢false, false≢true}
+use mathlib.Core.Bool.{Bool, true, false, not, _&&_, cond, true≢false, false≢true}
 use mathlib.Core.Option.{Option, none, some}
-use Prim.Native.Nat.{ℕ, zero, suc, _+_, _-_, _≤_, _<_}
+use Prim.Native.Nat.{ℕ, _+_}
 use native.Mathlib.Omega.{arith}
 use lib.Dec.{eqb, leb, ltb, leb·zero}
 use lib.ListN.{length, drop}
-use borrow.Author.Tests.{leb-true, ltb-true, le-leb, not-true}
+use borrow.Author.Tests.{le-leb}
 use Rattle.json.specs.Rows.{choose}
 use Rattle.json.specs.Tree.{Place, Tree, object, list, string, number, bool, null, Members, noMember, member, Elements, noElement, element}
 use Rattle.numbers.specs.Number.{integerIn, decimalFrom, carried, negative, rounded, allZero, behindPoint, millionths as millionthsOf}
@@ -17,15 +17,14 @@ use Rattle.numbers.specs.declared.Decimal.{Decimal}
 use Rattle.numbers.specs.declared.Decimal.the-variants as D
 use Rattle.document.specs.Bytes.{bytes}
 use Rattle.document.specs.Posology.{Posology}
-use Rattle.document.specs.Date.{among, dateOf, timeOf}
 use Rattle.document.specs.Lookup.{Entry, same, has, orElse, Found, nothing, one, twice, add, find, repeated, unknown}
-use Rattle.document.specs.Schema.{greatestDecimal, Family, aPosology, aDetail, aTimed, aDosage, aSequenceObject, anAtTime, anInSegment, NumberShape, integer, decimal, StringShape, text, date, time, OfString, ListShape, fourDecimals, days, some-objects, any-objects, OfList, Four, Shape, aNumber, aString, aFlag, anObject, aList, Of, OfFamily, Rows, need, may, gives, gives-if, aText, posologyRows, rowsOf, typesOf, isRecord, mayStand, mayOpen, names}
-use Rattle.document.specs.Visit.{Left, recordLess, roomLess, Outcome, done, refuse, bind, guard, unless, Value, needed, present, optional, fields, opening, body, placeOf, typed, byType, members, whole, millionths, digits, orRefused, chars, each, isEmpty, distinct, ascending, decimals, elements, ofNumber, ofString, ofBool, ofObject, ofList, emptyFor, valueOf, entriesOf, valuesOf, visit, recordsAtMost}
+use Rattle.document.specs.Schema.{greatestDecimal, Family, aPosology, aDetail, aTimed, aDosage, aSequenceObject, anAtTime, anInSegment, NumberShape, integer, decimal, StringShape, text, date, time, OfString, ListShape, fourDecimals, days, some-objects, any-objects, OfList, Four, Shape, aNumber, aString, aFlag, anObject, aList, Of, OfFamily, Rows, need, may, gives, gives-if, aText, posologyRows, rowsOf, isRecord, mayStand, mayOpen, names}
+use Rattle.document.specs.Visit.{Left, recordLess, roomLess, Outcome, done, bind, guard, unless, Value, needed, present, optional, fields, opening, body, placeOf, typed, members, whole, millionths, digits, orRefused, chars, each, isEmpty, distinct, ascending, decimals, elements, ofNumber, ofString, ofBool, ofObject, ofList, valueOf, entriesOf, valuesOf, visit, recordsAtMost}
 use Rattle.document.specs.Valid.{every, isAmount, isDays}
-use Rattle.document.specs.Spells.{Meaning, Given, Perhaps, FieldsMean, BodyMeans, TypeMeans, MembersMean, DigitsMean, CharsMean, EachMeans, fourOf, ElementsMean, NumberMeans, StringMeans, BoolMeans, ObjectMeans, ListMeans, meaningOf, meantMembers, meantElements, Means}
+use Rattle.document.specs.Spells.{Meaning, Given, Perhaps, FieldsMean, MembersMean, DigitsMean, CharsMean, EachMeans, ElementsMean, NumberMeans, StringMeans, BoolMeans, ObjectMeans, ListMeans, meaningOf, meantMembers, meantElements, Means}
 use Rattle.document.proofs.Good.{sum, validOf, recordsOf, textOf, Takes, Good, and-both, and-left, and-right}
 use Rattle.document.proofs.Days.{days-in-range, days-some}
-use Rattle.document.proofs.Makes.{takes-none, takes-then, takes-as}
+use Rattle.document.proofs.Makes.{takes-as}
 use Rattle.document.proofs.Sound.{good-free, numbers-take}
 use Rattle.document.proofs.Parts.{Parts, GoodGiven, nothing-taken, opens, dosage-parts, at-time-parts, in-segment-parts, timed-parts, detail-parts, object-parts, posology-parts}
 

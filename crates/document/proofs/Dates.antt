@@ -1,15 +1,15 @@
 -- What is read of a date or a time is one.
-use mathlib.Core.Path.{_≡_, refl, ap, sym, _∙_}
+use mathlib.Core.Path.{_≡_, refl}
 use mathlib.Core.List.{List, [], _∷_}
-use mathlib.Core.Bool.{Bool, true, false, cond, _&&_}
+use mathlib.Core.Bool.{Bool, true, false, _&&_}
 use mathlib.Core.Option.{Option, none, some}
-use Prim.Native.Nat.{ℕ, _+_, _*_, _≤_, _<_}
+use Prim.Native.Nat.{ℕ, _*_, _≤_, _<_}
 use native.Mathlib.Omega.{arith}
 use lib.Dec.{eqb, leb}
 use borrow.Author.Tests.{leb-true, le-leb}
 use Rattle.json.specs.Rows.{choose}
-use Rattle.document.specs.Posology.{Day, Zone, east, west, Date, bare, moment}
-use Rattle.document.specs.Date.{isDay, isZone, isSecond, isDate, Behind, two, then, mark, only, clock, alone, seconds, atMinute, timeOf, dayOf, minutesWest, signed, zone, momentOf, bareOr, dateOf}
+use Rattle.document.specs.Posology.{Day}
+use Rattle.document.specs.Date.{isDay, isZone, isSecond, isDate, Behind, two, then, mark, only, clock, alone, seconds, atMinute, timeOf, dayOf, signed, zone, momentOf, bareOr, dateOf}
 use Rattle.document.proofs.Good.{and-both, and-left, and-right}
 
 -- What holds of what is read, if something is.

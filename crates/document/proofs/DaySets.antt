@@ -1,12 +1,12 @@
 -- The days of a set come back from its bits.
 use mathlib.Core.Path.{_≡_, refl, ap, sym, subst, _∙_}
 use mathlib.Core.List.{List, [], _∷_}
-use mathlib.Core.Bool.{Bool, true, false, not, _&&_, false≢true}
+use mathlib.Core.Bool.{Bool, true, false, not, _&&_}
 use Prim.Native.Nat.{ℕ, zero, suc, _+_, _*_, _-_, _/_, _%_, _^_, _≤_, _<_}
 use native.Mathlib.Omega.{arith}
 use native.Mathlib.Nat.{pow-succ'}
 use lib.Dec.{eqb, leb, ltb}
-use borrow.Author.Tests.{leb-true, ltb-true, lt-ltb, le-leb, eq-eqb, ne-eqb, eqb-true, eqb-false}
+use borrow.Author.Tests.{leb-true, ltb-true, lt-ltb, eq-eqb, ne-eqb, eqb-true, eqb-false}
 use Rattle.document.specs.Visit.{isEmpty}
 use Rattle.document.specs.Valid.{climbs, isDays}
 use Rattle.document.specs.Table.{daySet}
@@ -14,14 +14,14 @@ use Rattle.document.specs.Untable.{keep, daysOf}
 use Rattle.document.proofs.Good.{and-left, and-right, and-both}
 
 -- The bits counted from a day on.
-abbrev from : ℕ → List ℕ → ℕ
+abbrev pub from : ℕ → List ℕ → ℕ
 from day [] = 0
 from day (d ∷ ds) = 2 ^ (d - day) + from day ds
 
 one-lower : (day d : ℕ) → day < d → 2 ^ (d - day) ≡ 2 * 2 ^ (d - (day + 1))
 one-lower day d h = let e : d - day ≡ suc (d - (day + 1)) = omega arith in ap (λ (n : ℕ). 2 ^ n) e ∙ pow-succ' 2 (d - (day + 1))
 
-halves : (day least hi : ℕ) (ds : List ℕ) → day ≤ least → climbs least hi ds ≡ true → from day ds ≡ 2 * from (day + 1) ds
+pub halves : (day least hi : ℕ) (ds : List ℕ) → day ≤ least → climbs least hi ds ≡ true → from day ds ≡ 2 * from (day + 1) ds
 halves day least hi [] h c = refl
 halves day least hi (d ∷ ds) h c =
     let up : least < d = ltb-true least d (and-left (ltb least d) (leb d hi) (and-left (ltb least d && leb d hi) (climbs d hi ds) c)) in
@@ -76,7 +76,7 @@ days-back (suc n) day least hi (d ∷ ds) e h c = go (eqb d day) refl (λ f i. d
         ∙ ap (λ (m : ℕ). daysOf n (day + 1) m) w
         ∙ k₂ (omega arith) again
 
-from-one : (ds : List ℕ) → daySet ds ≡ from 1 ds
+pub from-one : (ds : List ℕ) → daySet ds ≡ from 1 ds
 from-one [] = refl
 from-one (d ∷ ds) = ap (λ (m : ℕ). 2 ^ (d - 1) + m) (from-one ds)
 

@@ -1,11 +1,11 @@
 -- Days in range, none twice, make a set that ascends.
 use mathlib.Core.Path.{_≡_, refl, ap, sym, _∙_}
 use mathlib.Core.List.{List, [], _∷_}
-use mathlib.Core.Bool.{Bool, true, false, not, _&&_, _||_, true≢false, false≢true}
+use mathlib.Core.Bool.{Bool, true, false, not, _&&_, _||_, true≢false}
 use Prim.Native.Nat.{ℕ, _<_, _≤_}
 use native.Mathlib.Omega.{arith}
 use lib.Dec.{eqb, leb, ltb}
-use borrow.Author.Tests.{leb-true, leb-false, le-leb, ltb-true, eqb-true, eqb-false, lt-ltb, eq-eqb, ne-eqb, not-true}
+use borrow.Author.Tests.{leb-true, leb-false, le-leb, ltb-true, eqb-false, lt-ltb, ne-eqb, not-true}
 use Rattle.json.specs.Rows.{choose}
 use Rattle.document.specs.Date.{among}
 use Rattle.document.specs.Visit.{isEmpty, distinct, inserted, ascending}

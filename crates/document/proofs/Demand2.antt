@@ -1,7 +1,7 @@
 -- Demand 2: what is accepted is what spells a valid posology; what is written reads back.
 use mathlib.Core.Path.{_≡_}
 use mathlib.Core.List.{List, _++_}
-use mathlib.Core.Bool.{Bool, true, false}
+use mathlib.Core.Bool.{true}
 use mathlib.Core.Logic.{_↔_}
 use Prim.Native.Nat.{ℕ, _≤_}
 use lib.ListN.{length, take}
@@ -11,7 +11,7 @@ use Rattle.document.specs.Spells.{Spells}
 use Rattle.document.specs.Table.{tableOf}
 use Rattle.document.specs.Plain.{plain}
 use Rattle.document.specs.Answer.{taken, read, textAtMost}
-use Rattle.document.specs.Write.{Write, writes, write, fitting, readable, greatestRoom}
+use Rattle.document.specs.Write.{write, fitting, readable, greatestRoom}
 use Rattle.document.proofs.PlainTexts.{plain-reads}
 use Rattle.document.proofs.Tables.{one-of-table, own-written, readable-read, read-readable}
 use Rattle.document.proofs.Spelled.{accepted-spells, spelled-accepted, one-posology}

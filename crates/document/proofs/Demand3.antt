@@ -1,9 +1,9 @@
 -- Demand 3: runs come back; the order of members and the blanks between tokens say nothing.
 use mathlib.Core.Path.{_≡_}
-use mathlib.Core.List.{List, [], _∷_}
+use mathlib.Core.List.{List}
 use mathlib.Core.Bool.{true}
 use mathlib.Core.Option.{some}
-use Prim.Native.Nat.{ℕ, suc, _≤_, _+_}
+use Prim.Native.Nat.{ℕ, suc, _≤_}
 use lib.ListN.{length, drop}
 use Rattle.json.specs.Tree.{placeIn, Tree}
 use Rattle.json.specs.Grammar.{Text}

@@ -1,16 +1,15 @@
 -- When a value is within its shape, and what reading it takes of the records and the text room.
-use mathlib.Core.Path.{_≡_, refl, ap, sym, _∙_}
+use mathlib.Core.Path.{_≡_, refl}
 use mathlib.Core.List.{List, [], _∷_}
-use mathlib.Core.Bool.{Bool, true, false, not, _&&_, _||_, true≢false, false≢true}
+use mathlib.Core.Bool.{Bool, true, false, not, _&&_, false≢true}
 use mathlib.Core.Option.{Option, none, some}
-use Prim.Native.Nat.{ℕ, zero, suc, _+_, _-_, _≤_}
-use native.Mathlib.Omega.{arith}
-use lib.Dec.{eqb, leb, ltb}
+use Prim.Native.Nat.{ℕ, _+_}
+use lib.Dec.{leb}
 use lib.ListN.{length}
 use Rattle.document.specs.Utf8.{isUtf8}
-use Rattle.document.specs.Posology.{Posology, Detail, daily, freeText, single, cyclic, sequence, SequenceObject, posologySequence, pause, SequenceObjects, noObject, objectThen, ordered}
+use Rattle.document.specs.Posology.{Posology, Detail, daily, freeText, single, cyclic, sequence, SequenceObject, posologySequence, pause, SequenceObjects, noObject, objectThen}
 use Rattle.document.specs.Date.{isDate, isSecond}
-use Rattle.document.specs.Schema.{greatestDecimal, Family, aPosology, aDetail, aTimed, aDosage, aSequenceObject, anAtTime, anInSegment, NumberShape, integer, decimal, StringShape, text, date, time, OfString, ListShape, fourDecimals, days, some-objects, any-objects, OfList, Four, Shape, aNumber, aString, aFlag, anObject, aList, Of, OfFamily, Rows, need, may, gives, gives-if}
+use Rattle.document.specs.Schema.{greatestDecimal, Family, aPosology, aDetail, aTimed, aDosage, aSequenceObject, anAtTime, anInSegment, NumberShape, integer, decimal, StringShape, text, date, time, OfString, ListShape, fourDecimals, days, some-objects, any-objects, OfList, Shape, aNumber, aString, aFlag, anObject, aList, Of, OfFamily, Rows, need, may, gives, gives-if}
 use Rattle.document.specs.Visit.{Left, isEmpty}
 use Rattle.document.specs.Valid.{isAmount, isDays, every, validDosage, validAtTime, validInSegment, validTimed, validDetail, validObject, validFields, timedRecords, detailRecords, objectRecords}
 

@@ -33,6 +33,7 @@ pub mod PlainTexts
 pub mod WordsBack
 pub mod DaySets
 pub mod Untables
+pub mod Strings
 pub mod Untabled
 pub mod Tables
 pub mod Demand1

@@ -1,21 +1,20 @@
 -- Kind by kind: good values in an object's rows make a good object.
-use mathlib.Core.Path.{_≡_, refl, ap, sym, subst, _∙_}
+use mathlib.Core.Path.{_≡_, refl, ap, subst, _∙_}
 use mathlib.Core.List.{List, [], _∷_}
-use mathlib.Core.Bool.{Bool, true, false, not, _&&_, _||_, cond, true≢false, false≢true}
+use mathlib.Core.Bool.{Bool, true, false, not, _&&_, _||_, cond, false≢true}
 use mathlib.Core.Option.{Option, none, some, Option·getD}
-use Prim.Native.Nat.{ℕ, zero, suc, pred, _+_, _-_, _≤_, _<_}
+use Prim.Native.Nat.{ℕ, zero, suc, _+_, _-_, _≤_, _<_}
 use native.Mathlib.Omega.{arith}
-use native.Mathlib.Numerals.{sub-one}
 use lib.Dec.{eqb, leb, ltb}
 use lib.ListN.{length}
-use borrow.Author.Tests.{leb-true, ltb-true, le-leb, not-true}
+use borrow.Author.Tests.{leb-true}
 use Rattle.document.specs.Utf8.{isUtf8}
-use Rattle.document.specs.Posology.{Posology, Date, Dosage, simple, fromTo, range, AtTime, atTime, InSegment, inSegment, Timed, dosageOnly, times, daySegments, weekDays, daysOfMonth, interval, Detail, daily, freeText, single, cyclic, sequence, SequenceObject, posologySequence, pause, SequenceObjects, noObject, objectThen, ordered}
-use Rattle.document.specs.Date.{among, isDate, isDay, isSecond, inOrder}
-use Rattle.document.specs.Schema.{greatestDecimal, greatestInteger, Family, aPosology, aDetail, aTimed, aDosage, aSequenceObject, anAtTime, anInSegment, mealCodes, sequencesInside, NumberShape, integer, decimal, text, date, time, fourDecimals, days, some-objects, any-objects, Shape, aNumber, aString, aFlag, anObject, aList, Of, OfFamily, Rows, need, may, gives, gives-if, aText, rowsOf, typesOf, mayStand, mayOpen}
+use Rattle.document.specs.Posology.{Posology, Date, Dosage, AtTime, InSegment, Timed, Detail, sequence, SequenceObject, ordered}
+use Rattle.document.specs.Date.{among, isDate}
+use Rattle.document.specs.Schema.{greatestInteger, aPosology, aDetail, aTimed, aDosage, aSequenceObject, anAtTime, anInSegment, mealCodes, NumberShape, integer, date, Shape, aNumber, aString, aFlag, anObject, Of, Rows, need, may, aText, rowsOf}
 use Rattle.document.specs.Visit.{Left, isEmpty}
-use Rattle.document.specs.Valid.{isAmount, isDuration, isTimeUnit, isText, isDays, isMeal, isUnitFor, ifGiven, every, someObject, validDosage, validAtTime, validInSegment, validTimed, validDetail, validObject, validObjects, validFields, timedRecords, detailRecords, objectRecords, objectsRecords}
-use Rattle.document.proofs.Good.{sum, recordsOf, textOf, detailText, objectText, objectsText, givenText, posologyText, Takes, Good, GoodOption, Filled, Made, and-both, and-left, and-right}
+use Rattle.document.specs.Valid.{isAmount, isDuration, isText, isMeal, isUnitFor, ifGiven, every, someObject, validDosage, validTimed, validDetail, validObject, validObjects, validFields, detailRecords, objectRecords, objectsRecords}
+use Rattle.document.proofs.Good.{sum, recordsOf, textOf, detailText, objectText, objectsText, givenText, Takes, Good, GoodOption, Made, and-both, and-left, and-right}
 
 pub takes-none : {l l′ : Left} → l ≡ l′ → Takes 0 0 l l′
 takes-none {l} {l′} e = let p = ap (λ (k : Left). k .records) e in let q = ap (λ (k : Left). k .room) e in record { taken = omega arith; used = omega arith }

@@ -1,10 +1,9 @@
 -- Reordering keeps the depth, and trees that differ in places alone are reordered ones.
-use mathlib.Core.Path.{_≡_, refl, ap, sym, subst, _∙_}
-use mathlib.Core.List.{List, [], _∷_}
+use mathlib.Core.Path.{_≡_, refl, ap, subst, _∙_}
 use Prim.Native.Nat.{ℕ, suc, max, _≤_}
 use native.Mathlib.Omega.{arith}
 use native.Mathlib.Nat.{le-max-left, le-max-right, max-le}
-use Rattle.json.specs.Tree.{Place, Tree, object, list, string, number, bool, null, Members, noMember, member, Elements, noElement, element}
+use Rattle.json.specs.Tree.{Tree, object, list, string, number, bool, null, Members, noMember, member, Elements, noElement, element}
 use Rattle.spelling.specs.Depth.{depth, depthOfMembers, depthOfElements}
 use Rattle.document.specs.Same.{Reordered, an-object, a-list, a-string, a-number, a-bool, a-null, ReorderedMembers, no-member, next-member, swap, twice, ReorderedElements, no-element, next-element, unplaced, unplacedMembers, unplacedElements}
 

@@ -1,7 +1,7 @@
 -- The cases of a run's answer, and the first text of a run reordered.
 use mathlib.Core.Path.{_≡_, refl, ap, sym, subst, _∙_}
 use mathlib.Core.List.{List, [], _∷_, _++_}
-use mathlib.Core.Bool.{Bool, true, false, cond, _||_, true≢false, false≢true}
+use mathlib.Core.Bool.{Bool, true, false, cond, _||_, false≢true}
 use Prim.Native.Nat.{ℕ, _+_, _-_, _≤_}
 use native.Mathlib.Omega.{arith}
 use lib.Dec.{leb, ltb}
@@ -23,7 +23,7 @@ use Rattle.document.specs.Posology.{Posology}
 use Rattle.document.specs.Same.{Reordered}
 use Rattle.document.specs.Visit.{Left, Outcome, done, refuse, visit}
 use Rattle.document.specs.Valid.{isUse}
-use Rattle.document.specs.Answer.{Read, taken, refused, visited, readWalked, ReadNext, takenTo, blankTo, refusedAt, upTo, notEnded, endsAt, nextWalked, nextBegun, readNext, textAtMost}
+use Rattle.document.specs.Answer.{visited, readWalked, takenTo, blankTo, refusedAt, upTo, notEnded, nextWalked, nextBegun, readNext, textAtMost}
 use Rattle.document.proofs.Reorder.{visit-reordered}
 use Rattle.document.proofs.Moves.{reordered-depth}
 

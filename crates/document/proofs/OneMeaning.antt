@@ -1,7 +1,7 @@
 -- A tree means at most one posology.
 use mathlib.Core.Path.{_≡_, refl, ap, sym, subst, _∙_}
 use mathlib.Core.List.{List, [], _∷_}
-use mathlib.Core.Bool.{Bool, true, false, true≢false, false≢true}
+use mathlib.Core.Bool.{Bool, true, false, true≢false}
 use mathlib.Core.Option.{Option, none, some}
 use Prim.Native.Nat.{ℕ}
 use lib.Dec.{eqb}
@@ -11,7 +11,7 @@ use Rattle.document.specs.Posology.{Posology}
 use Rattle.document.specs.Lookup.{Entry, same, Found, nothing, one, twice, add, find}
 use Rattle.document.specs.Schema.{Family, aPosology, NumberShape, integer, decimal, StringShape, text, date, time, OfString, ListShape, fourDecimals, days, some-objects, any-objects, OfList, Four, Shape, aNumber, aString, aFlag, anObject, aList, Of, OfFamily, Rows, need, may, gives, gives-if, rowsOf, typesOf}
 use Rattle.document.specs.Visit.{ascending}
-use Rattle.document.specs.Spells.{Meaning, Given, Perhaps, FieldsMean, BodyMeans, TypeMeans, MembersMean, DigitsMean, CharsMean, EachMeans, fourOf, ElementsMean, NumberMeans, StringMeans, BoolMeans, ObjectMeans, ListMeans, meaningOf, meantMembers, meantElements, Means}
+use Rattle.document.specs.Spells.{Meaning, Given, Perhaps, FieldsMean, TypeMeans, MembersMean, DigitsMean, CharsMean, EachMeans, fourOf, ElementsMean, NumberMeans, StringMeans, BoolMeans, ObjectMeans, ListMeans, meaningOf, meantMembers, meantElements, Means}
 
 abbrev One : Meaning → Type 0
 One m = (s : Shape) (x y : Of s) → m .means s x → m .means s y → x ≡ y

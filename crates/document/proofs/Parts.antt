@@ -1,24 +1,24 @@
 -- Kind by kind: what a good object's fields mean is good too, one behind the other.
 use mathlib.Core.Path.{_≡_, refl, ap, sym, subst, _∙_}
-use mathlib.Core.List.{List, [], _∷_}
-use mathlib.Core.Bool.{Bool, true, false, not, _&&_, _||_, cond, true≢false, false≢true}
+use mathlib.Core.List.{List}
+use mathlib.Core.Bool.{Bool, true, false, not, _&&_, _||_, cond, false≢true}
 use mathlib.Core.Option.{Option, none, some, Option·getD}
 use Prim.Native.Nat.{ℕ, zero, suc, _+_, _-_, _≤_, _<_}
 use native.Mathlib.Omega.{arith}
 use lib.Dec.{eqb, leb, ltb, leb·zero}
 use lib.ListN.{length}
-use borrow.Author.Tests.{leb-true, ltb-true, le-leb, lt-ltb, not-true, not-false}
+use borrow.Author.Tests.{leb-true, ltb-true, le-leb, lt-ltb}
 use Rattle.document.specs.Bytes.{bytes}
 use Rattle.document.specs.Utf8.{isUtf8}
-use Rattle.document.specs.Posology.{Posology, Date, Dosage, simple, fromTo, range, AtTime, atTime, InSegment, inSegment, Timed, dosageOnly, times, daySegments, weekDays, daysOfMonth, interval, Detail, daily, freeText, single, cyclic, sequence, SequenceObject, posologySequence, pause, ordered}
-use Rattle.document.specs.Date.{among, isDate, isDay, isSecond, inOrder}
+use Rattle.document.specs.Posology.{Posology, Date, Dosage, simple, AtTime, InSegment, Timed, dosageOnly, times, daySegments, weekDays, daysOfMonth, interval, Detail, daily, freeText, single, cyclic, sequence, SequenceObject, posologySequence, pause, ordered}
+use Rattle.document.specs.Date.{among, isDate, isSecond, inOrder}
 use Rattle.document.specs.Lookup.{Entry, Found, nothing, one, twice, find}
-use Rattle.document.specs.Schema.{greatestDecimal, greatestInteger, mealCodes, sequencesInside, Family, aPosology, aDetail, aTimed, aDosage, aSequenceObject, anAtTime, anInSegment, NumberShape, integer, decimal, text, date, time, fourDecimals, days, some-objects, any-objects, underSingle, underDays, underCyclic, Shape, aNumber, aString, aFlag, anObject, aList, Of, OfFamily, Rows, need, may, gives, gives-if, aText, rowsOf, mayStand, mayOpen}
+use Rattle.document.specs.Schema.{greatestDecimal, greatestInteger, mealCodes, sequencesInside, aPosology, aDetail, aTimed, aDosage, aSequenceObject, anAtTime, anInSegment, integer, decimal, date, time, fourDecimals, days, underDays, underCyclic, Shape, aNumber, aString, aFlag, anObject, aList, Of, Rows, need, may, gives, gives-if, aText, rowsOf}
 use Rattle.document.specs.Visit.{Left, recordLess, isEmpty}
 use Rattle.document.specs.Valid.{isAmount, isDuration, isTimeUnit, isText, isDays, isMeal, isUnitFor, ifGiven, every, someObject, validObjects, validDosage, validAtTime, validInSegment, validTimed, validDetail, validObject, validFields, timedRecords, detailRecords, objectRecords}
 use Rattle.document.specs.Spells.{Meaning, Given, Perhaps, FieldsMean}
-use Rattle.document.proofs.Good.{sum, recordsOf, textOf, validOf, detailText, objectText, givenText, posologyText, Takes, Good, GoodOption, Filled, and-both, and-left, and-right}
-use Rattle.document.proofs.Makes.{takes-none, takes-then, takes-as, sum-two, sum-none, objects-valid, objects-records, objects-text, some-object, above}
+use Rattle.document.proofs.Good.{sum, detailText, objectText, givenText, Takes, Good, and-both, and-left, and-right}
+use Rattle.document.proofs.Makes.{takes-as, sum-two, sum-none, objects-valid, objects-records, objects-text, some-object, above}
 use Rattle.document.proofs.Sound.{good-free}
 
 abbrev pub GoodGiven : (s : Shape) → Option (Of s) → Left → Left → Type 0

@@ -3,7 +3,7 @@ use mathlib.Core.List.{List, [], _∷_}
 use mathlib.Core.Bool.{Bool, true, false, not, _&&_, false≢true}
 use mathlib.Core.Option.{Option, none, some}
 use mathlib.Core.Path.{_≡_}
-use Prim.Native.Nat.{ℕ, zero, suc, _+_, _*_, _≤_, max}
+use Prim.Native.Nat.{ℕ, zero, suc, _+_, _*_, _≤_}
 use Prim.Native.String.{String}
 use native.Mathlib.Omega.{arith}
 use native.Mathlib.Nat.{max-le}
@@ -16,7 +16,7 @@ use Rattle.document.specs.Schema.{underSingle, underDays, underCyclic, s
 use Rattle.document.specs.Valid.{isDays, isDuration, isTimeUnit, validTimed, validDetail, validObject, validObjects, someObject, valid, validFields, detailRecords, ifGiven, isMeal, isUnitFor, isText}
 use Rattle.document.specs.Visit.{recordsAtMost}
 use Rattle.document.proofs.Parts.{all-nine}
-use Rattle.document.specs.Plain.{field, fieldIf, typed, whole, dosageTree, daysTree, timesTree, segmentsTree, timedTree, detailTree, objectTree, objectsTree, Slot, fieldOf, membersOf, mapped, textTree, dateTree, reserveTree, headSlots, plainTree, wholeDigits, timeText, dateText}
+use Rattle.document.specs.Plain.{field, fieldIf, typed, whole, dosageTree, daysTree, timesTree, segmentsTree, timedTree, detailTree, objectTree, objectsTree, Slot, fieldOf, membersOf, mapped, textTree, dateTree, reserveTree, headSlots, plainTree, timeText, dateText}
 use Rattle.document.proofs.Good.{and-left, and-right}
 
 -- Members and elements no deeper than n.

@@ -1,24 +1,24 @@
 -- The plain tree of a valid posology means it: the head, of which some members are left out.
 use mathlib.Core.Path.{_≡_, refl, ap, sym, subst, _∙_}
-use mathlib.Core.List.{List, [], _∷_, _++_}
-use mathlib.Core.Bool.{Bool, true, false, cond, not, _&&_, _||_, true≢false, false≢true}
+use mathlib.Core.List.{List, [], _∷_}
+use mathlib.Core.Bool.{Bool, true, false, not, _&&_}
 use mathlib.Core.Option.{Option, none, some, Option·getD}
 use Prim.Native.Nat.{ℕ, _≤_}
 use native.Mathlib.Omega.{arith}
 use lib.Dec.{leb}
 use borrow.Author.Tests.{leb-true, not-true}
-use Rattle.json.specs.Tree.{Place, Tree, bool, Members, noMember, member}
+use Rattle.json.specs.Tree.{Tree}
 use Rattle.document.specs.Bytes.{bytes}
 use Rattle.document.specs.Utf8.{isUtf8}
 use Rattle.document.specs.Posology.{Posology, Date, bare, moment}
 use Rattle.document.specs.Date.{isDate, inOrder}
-use Rattle.document.specs.Lookup.{Entry, same, has, orElse, Found, nothing, one, twice, add, find, repeated, unknown}
-use Rattle.document.specs.Schema.{mealCodes, sequencesInside, aPosology, aDetail, integer, date, aNumber, aString, aFlag, anObject, aText, Shape, Of, names, posologyRows, rowsOf}
+use Rattle.document.specs.Lookup.{same, has, orElse, Found, nothing, add, find, repeated, unknown}
+use Rattle.document.specs.Schema.{mealCodes, sequencesInside, aDetail, integer, date, aNumber, aString, aFlag, anObject, aText, Shape, Of, names, posologyRows, rowsOf}
 use Rattle.document.specs.Visit.{isEmpty}
 use Rattle.document.specs.Valid.{isText, isMeal, isUnitFor, ifGiven, valid, validFields, validDetail, detailRecords}
 use Rattle.document.specs.Spells.{Meaning, Given, Perhaps, meaningOf, meantMembers, Means}
-use Rattle.document.specs.Plain.{Slot, slot, fieldOf, membersOf, mapped, textTree, dateTree, reserveTree, whole, headSlots, detailTree, plainTree, wholeDigits, dateText}
-use Rattle.document.proofs.Good.{and-both, and-left, and-right}
+use Rattle.document.specs.Plain.{Slot, fieldOf, membersOf, mapped, textTree, dateTree, reserveTree, whole, headSlots, detailTree, plainTree, dateText}
+use Rattle.document.proofs.Good.{and-left, and-right}
 use Rattle.document.proofs.Parts.{all-nine}
 use Rattle.document.proofs.Written.{whole-means}
 use Rattle.document.proofs.WrittenDates.{date-reads}

@@ -1,22 +1,22 @@
 -- The plain tree of a valid posology means it.
-use mathlib.Core.Path.{_≡_, refl, ap, sym, subst, _∙_}
-use mathlib.Core.List.{List, [], _∷_, _++_}
-use mathlib.Core.Bool.{Bool, true, false, cond, not, _&&_, _||_, true≢false, false≢true}
-use mathlib.Core.Option.{Option, none, some, Option·getD}
+use mathlib.Core.Path.{_≡_, refl, ap, sym}
+use mathlib.Core.List.{List, [], _∷_}
+use mathlib.Core.Bool.{Bool, true, false, not, _&&_, false≢true}
+use mathlib.Core.Option.{none, some}
 use Prim.Native.Nat.{ℕ, zero, suc, _-_, _≤_, _<_}
 use native.Mathlib.Omega.{arith}
 use lib.Dec.{eqb, leb, ltb}
 use borrow.Author.Tests.{leb-true, ltb-true, eqb-true, not-true}
-use Rattle.json.specs.Tree.{Tree, object, list, string, number, bool, null, Members, noMember, Elements, noElement, element}
+use Rattle.json.specs.Tree.{Tree, object, list, string, number, bool, null, noMember}
 use Rattle.document.specs.Utf8.{isUtf8}
-use Rattle.document.specs.Posology.{Posology, Date, Dosage, simple, fromTo, range, AtTime, atTime, InSegment, inSegment, Timed, dosageOnly, times, daySegments, weekDays, daysOfMonth, interval, Detail, daily, freeText, single, cyclic, sequence, SequenceObject, posologySequence, pause, SequenceObjects, noObject, objectThen, ordered, listed}
+use Rattle.document.specs.Posology.{Dosage, simple, fromTo, range, AtTime, atTime, InSegment, inSegment, Timed, dosageOnly, times, daySegments, weekDays, daysOfMonth, interval, Detail, daily, freeText, single, cyclic, sequence, SequenceObject, posologySequence, pause, SequenceObjects, noObject, objectThen, ordered, listed}
 use Rattle.document.specs.Date.{among, isSecond}
-use Rattle.document.specs.Schema.{greatestDecimal, greatestInteger, Family, OfFamily, aDetail, aTimed, aDosage, aSequenceObject, anAtTime, anInSegment, integer, decimal, aNumber, anObject, aList, days, underSingle, underDays, underCyclic, rowsOf}
+use Rattle.document.specs.Schema.{greatestDecimal, greatestInteger, Family, OfFamily, aDetail, aTimed, aDosage, aSequenceObject, anAtTime, anInSegment, integer, aNumber, anObject, days, underSingle, underDays, underCyclic, rowsOf}
 use Rattle.document.specs.Visit.{isEmpty}
-use Rattle.document.specs.Valid.{isAmount, isDuration, isTimeUnit, isText, climbs, isDays, every, validDosage, validAtTime, validInSegment, validTimed, validDetail, validObject, validObjects, someObject}
-use Rattle.document.specs.Spells.{meaningOf, meantElements, EachMeans, ElementsMean, DigitsMean}
+use Rattle.document.specs.Valid.{isAmount, isDuration, isTimeUnit, climbs, isDays, every, validDosage, validAtTime, validInSegment, validTimed, validDetail, validObject, validObjects, someObject}
+use Rattle.document.specs.Spells.{meaningOf, meantElements, EachMeans, ElementsMean}
 use Rattle.document.specs.Plain as P
-use Rattle.document.specs.Plain.{wholeDigits, fractionDigits, pointed, dosageTree, daysTree, timesTree, segmentsTree, timedTree, detailTree, objectTree, objectsTree}
+use Rattle.document.specs.Plain.{wholeDigits, dosageTree, daysTree, timesTree, segmentsTree, timedTree, detailTree, objectTree, objectsTree}
 use Rattle.document.proofs.Good.{and-left, and-right}
 use Rattle.document.proofs.Days.{climbs-same, climbs-distinct}
 use Rattle.document.proofs.Written.{whole-means, amount-means}

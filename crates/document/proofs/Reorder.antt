@@ -1,13 +1,13 @@
 -- Members in another order and values at other places are read alike: both accepted as the same, or both refused.
-use mathlib.Core.Path.{_≡_, refl, ap, ap₂, sym, _∙_}
+use mathlib.Core.Path.{_≡_, refl, ap₂, sym, _∙_}
 use mathlib.Core.List.{List, [], _∷_, _++_}
 use mathlib.Core.Bool.{Bool, true, false, cond, _||_, _&&_, not, true≢false, false≢true}
 use mathlib.Core.Option.{Option, none, some}
-use Prim.Native.Nat.{ℕ, zero, suc, _-_}
+use Prim.Native.Nat.{ℕ, zero, suc}
 use native.Mathlib.Omega.{arith}
 use lib.Dec.{eqb, leb, ltb, eqb·zero-suc, eqb·suc-zero, eqb·suc-suc}
 use lib.ListN.{length}
-use Rattle.json.specs.Tree.{Place, Tree, object, list, string, number, bool, null, Members, noMember, member, Elements, noElement, element}
+use Rattle.json.specs.Tree.{Place, Tree, Members, Elements}
 use Rattle.numbers.specs.Number.{integerIn, decimalFrom}
 use Rattle.numbers.specs.declared.Integer.{Integer}
 use Rattle.numbers.specs.declared.Integer.the-variants as I
@@ -17,8 +17,8 @@ use Rattle.document.specs.Bytes.{bytes}
 use Rattle.document.specs.Posology.{Posology}
 use Rattle.document.specs.Date.{dateOf, timeOf}
 use Rattle.document.specs.Lookup.{Entry, same, has, orElse, Found, nothing, one, twice, add, find, repeated, unknown}
-use Rattle.document.specs.Schema.{Family, aPosology, NumberShape, integer, decimal, StringShape, text, date, time, OfString, ListShape, fourDecimals, days, some-objects, any-objects, OfList, Shape, aNumber, aString, aFlag, anObject, aList, Of, OfFamily, Rows, need, may, gives, gives-if, rowsOf, typesOf, isRecord, mayStand, mayOpen, names}
-use Rattle.document.specs.Visit.{Left, recordLess, roomLess, Outcome, done, refuse, bind, guard, unless, Value, needed, present, optional, fields, opening, body, placeOf, typed, byType, members, whole, millionths, digits, orRefused, chars, each, isEmpty, distinct, ascending, decimals, elements, ofNumber, ofString, ofBool, ofObject, ofList, emptyFor, valueOf, entriesOf, valuesOf, visit, recordsAtMost}
+use Rattle.document.specs.Schema.{Family, aPosology, NumberShape, integer, decimal, StringShape, text, date, time, ListShape, fourDecimals, days, some-objects, any-objects, Shape, aNumber, aString, aFlag, anObject, aList, Rows, need, may, gives, gives-if, rowsOf, typesOf, isRecord, mayStand, mayOpen, names}
+use Rattle.document.specs.Visit.{Left, recordLess, Outcome, done, refuse, bind, guard, unless, Value, needed, present, optional, fields, opening, body, placeOf, typed, byType, members, whole, millionths, digits, orRefused, chars, each, isEmpty, distinct, decimals, elements, ofNumber, ofString, ofBool, ofObject, ofList, valueOf, entriesOf, valuesOf, visit, recordsAtMost}
 use Rattle.document.specs.Same as S
 use Rattle.document.specs.Same.{Reordered, ReorderedMembers, ReorderedElements}
 

@@ -1,11 +1,11 @@
 -- What is accepted is valid, takes what its records and strings take, and is what the tree means.
 use mathlib.Core.Path.{_≡_, refl, ap, sym, subst, _∙_}
 use mathlib.Core.List.{List, [], _∷_, _++_}
-use mathlib.Core.Bool.{Bool, true, false, not, _&&_, _||_, cond, true≢false, false≢true}
+use mathlib.Core.Bool.{Bool, true, false, not, _&&_, cond}
 use mathlib.Core.Option.{Option, none, some}
-use Prim.Native.Nat.{ℕ, zero, suc, _+_, _-_, _≤_, _<_}
+use Prim.Native.Nat.{ℕ, _+_, _≤_, _<_}
 use native.Mathlib.Omega.{arith}
-use lib.Dec.{eqb, leb, ltb}
+use lib.Dec.{leb, ltb}
 use lib.ListN.{length, drop}
 use borrow.Author.Tests.{leb-true, ltb-true, not-true}
 use Rattle.json.specs.Rows.{choose}
@@ -15,14 +15,13 @@ use Rattle.numbers.specs.declared.Integer.the-variants as I
 use Rattle.numbers.specs.declared.Decimal.the-variants as D
 use Rattle.document.specs.Bytes.{bytes}
 use Rattle.document.specs.Utf8.{isUtf8}
-use Rattle.document.specs.Posology.{Posology}
-use Rattle.document.specs.Date.{among, isDate, isSecond, dateOf, timeOf}
+use Rattle.document.specs.Date.{isDate, isSecond, dateOf, timeOf}
 use Rattle.document.specs.Lookup.{Entry, same, has, orElse, Found, nothing, one, twice, add, find, repeated, unknown}
-use Rattle.document.specs.Schema.{greatestDecimal, Family, aPosology, aDetail, aTimed, aDosage, aSequenceObject, anAtTime, anInSegment, NumberShape, integer, decimal, StringShape, text, date, time, OfString, ListShape, fourDecimals, days, some-objects, any-objects, OfList, Shape, aNumber, aString, aFlag, anObject, aList, Of, OfFamily, Rows, need, may, gives, gives-if, rowsOf, typesOf, isRecord, mayStand, mayOpen, names}
-use Rattle.document.specs.Visit.{Left, recordLess, roomLess, Outcome, done, refuse, bind, guard, unless, Value, needed, present, optional, fields, opening, body, placeOf, typed, byType, members, whole, millionths, digits, orRefused, chars, each, isEmpty, distinct, ascending, decimals, elements, ofNumber, ofString, ofBool, ofObject, ofList, emptyFor, valueOf, entriesOf, valuesOf, visit, recordsAtMost}
-use Rattle.document.specs.Valid.{every, isAmount, isDays, validDetail, validObject, validTimed, validDosage, validFields, detailRecords, objectRecords, timedRecords}
-use Rattle.document.specs.Spells.{Meaning, Given, Perhaps, FieldsMean, BodyMeans, TypeMeans, MembersMean, DigitsMean, CharsMean, EachMeans, ElementsMean, NumberMeans, StringMeans, BoolMeans, ObjectMeans, ListMeans, meaningOf, meantMembers, meantElements, Means}
-use Rattle.document.proofs.Good.{sum, familyValid, familyRecords, familyText, validOf, recordsOf, textOf, Takes, Good, GoodOption, Filled, Made, and-both, and-left, and-right}
+use Rattle.document.specs.Schema.{greatestDecimal, Family, aPosology, aDetail, aTimed, aDosage, aSequenceObject, anAtTime, anInSegment, NumberShape, integer, decimal, StringShape, text, date, time, OfString, ListShape, fourDecimals, days, some-objects, any-objects, Shape, aNumber, aString, aFlag, anObject, aList, Of, OfFamily, Rows, need, may, gives, gives-if, rowsOf, isRecord, mayStand, mayOpen, names}
+use Rattle.document.specs.Visit.{Left, recordLess, roomLess, Outcome, done, refuse, bind, guard, unless, Value, needed, present, optional, fields, opening, body, placeOf, typed, members, whole, millionths, digits, orRefused, chars, each, isEmpty, distinct, decimals, elements, ofNumber, ofString, ofBool, ofObject, ofList, emptyFor, valueOf, entriesOf, valuesOf}
+use Rattle.document.specs.Valid.{every, isAmount}
+use Rattle.document.specs.Spells.{Meaning, Given, Perhaps, FieldsMean, BodyMeans, MembersMean, DigitsMean, CharsMean, EachMeans, ElementsMean, NumberMeans, StringMeans, BoolMeans, ObjectMeans, ListMeans, meaningOf, meantMembers, meantElements}
+use Rattle.document.proofs.Good.{sum, validOf, recordsOf, textOf, Takes, Good, GoodOption, Filled, Made, and-both, and-right}
 use Rattle.document.proofs.Days.{ascending-climbs, ascending-empty}
 use Rattle.document.proofs.Dates.{Holds, time-holds, date-holds}
 use Rattle.document.proofs.Makes.{takes-none, takes-then, takes-as, dosage-good, at-time-good, in-segment-good, timed-good, detail-good, object-good, posology-good}

@@ -1,5 +1,5 @@
 -- A text is taken as what it spells.
-use mathlib.Core.Path.{_≡_, refl, ap, sym, subst, _∙_}
+use mathlib.Core.Path.{_≡_, ap, sym, subst, _∙_}
 use mathlib.Core.List.{List}
 use Prim.Native.Nat.{ℕ, _≤_}
 use lib.ListN.{length}
@@ -9,11 +9,11 @@ use Rattle.json.specs.Grammar.{Text}
 use Rattle.spelling.specs.Depth.{depth}
 use Rattle.spelling.proofs.Spells as J
 use Rattle.document.specs.Posology.{Posology}
-use Rattle.document.specs.Visit.{Left, done, visit}
+use Rattle.document.specs.Visit.{done, visit}
 use Rattle.document.specs.Valid.{Valid, Fits}
 use Rattle.document.specs.Spells.{Spells, Means}
 use Rattle.document.specs.Answer.{taken, read, textAtMost}
-use Rattle.document.proofs.Texts.{Taken, read-taken, taken-read}
+use Rattle.document.proofs.Texts.{read-taken, taken-read}
 use Rattle.document.proofs.Accepts.{taken-means, means-taken}
 use Rattle.document.proofs.Utf8Texts.{text-utf8}
 use Rattle.document.proofs.OneMeaning.{means-one}

@@ -1,9 +1,8 @@
 -- A table stands for its posology, and the writer makes its plain text.
 use mathlib.Core.Path.{_≡_, refl, ap, sym, subst, _∙_}
 use mathlib.Core.List.{List, [], _∷_, _++_}
-use mathlib.Core.Bool.{Bool, true, false, cond, _&&_, true≢false, false≢true}
-use Prim.Native.Nat.{ℕ, zero, suc, _≤_}
-use native.Mathlib.Omega.{arith}
+use mathlib.Core.Bool.{Bool, true, false, _&&_, false≢true}
+use Prim.Native.Nat.{ℕ}
 use lib.Dec.{eqb, leb}
 use lib.ListN.{length, take, drop, take-append-drop}
 use lib.Seq.{take-at}
@@ -17,7 +16,7 @@ use Rattle.document.specs.Words.{tableWords}
 use Rattle.document.specs.Untable.{posologyOf}
 use Rattle.document.specs.Plain.{plain}
 use Rattle.document.specs.Answer.{taken, read}
-use Rattle.document.specs.Write.{Write, writes, refuses, write, fitting, isTableOf, readable, greatestRoom}
+use Rattle.document.specs.Write.{write, fitting, isTableOf, readable, greatestRoom}
 use Rattle.document.specs.declared.table.Table.{Table}
 use Rattle.document.proofs.Good.{and-both, and-left, and-right}
 use Rattle.document.proofs.Spelled.{accepted-spells}

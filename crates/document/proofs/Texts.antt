@@ -1,20 +1,20 @@
 -- An answer's cases: what a text or a run that is taken was walked and visited to, and back.
-use mathlib.Core.Path.{_≡_, refl, ap, sym, subst, _∙_}
-use mathlib.Core.List.{List, [], _∷_}
-use mathlib.Core.Bool.{Bool, true, false, true≢false, false≢true}
+use mathlib.Core.Path.{_≡_, refl, ap, _∙_}
+use mathlib.Core.List.{List}
+use mathlib.Core.Bool.{Bool, true, false, false≢true}
 use Prim.Native.Nat.{ℕ, _≤_}
 use native.Mathlib.Omega.{arith}
 use lib.Dec.{leb}
 use lib.ListN.{length}
 use borrow.Author.Tests.{leb-true, le-leb}
 use Rattle.json.specs.Rows.{choose}
-use Rattle.json.specs.Tree.{Place, Tree}
+use Rattle.json.specs.Tree.{Place}
 use Rattle.json.specs.Walk.{Walked, end, refused2, refused3, oneObject}
 use Rattle.moving.specs.Read.{treeOf}
 use Rattle.document.specs.Posology.{Posology}
 use Rattle.document.specs.Visit.{Left, Outcome, done, refuse, visit}
 use Rattle.document.specs.Valid.{isUse}
-use Rattle.document.specs.Answer.{Read, taken, refused, visited, readWalked, afterWalk, read, textAtMost}
+use Rattle.document.specs.Answer.{taken, refused, visited, afterWalk, read, textAtMost}
 
 never : _≡_ {A = ℕ} 0 1 → ⊥
 never e = omega arith

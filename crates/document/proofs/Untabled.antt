@@ -1,12 +1,12 @@
 -- The table of a valid posology, with its strings first in the buffer, stands for it.
-use mathlib.Core.Path.{_≡_, refl, ap, sym, subst, _∙_}
-use mathlib.Core.List.{List, [], _∷_, _++_, append-assoc, append-nil}
-use mathlib.Core.Bool.{Bool, true, false, cond, not, _&&_, true≢false, false≢true}
+use mathlib.Core.Path.{_≡_, refl, ap, sym, _∙_}
+use mathlib.Core.List.{List, [], _∷_, _++_, append-assoc}
+use mathlib.Core.Bool.{Bool, true, false, cond, not, true≢false}
 use mathlib.Core.Option.{Option, none, some, Option·getD}
 use Prim.Native.Nat.{ℕ, zero, suc, _+_, _-_, _≤_}
 use native.Mathlib.Omega.{arith}
 use lib.Dec.{eqb, leb}
-use lib.ListN.{length, replicate, length-append, length-replicate}
+use lib.ListN.{length, replicate, length-append}
 use borrow.Author.Tests.{leb-true, ne-eqb, not-true}
 use Rattle.document.specs.Posology as P
 use Rattle.document.specs.Posology.{Posology, AtTime, InSegment, Timed, Detail, SequenceObject, SequenceObjects}
@@ -14,10 +14,10 @@ use Rattle.document.specs.Date.{isDate, inOrder}
 use Rattle.document.specs.Utf8.{isUtf8}
 use Rattle.document.specs.Schema.{mealCodes, sequencesInside}
 use Rattle.document.specs.Visit.{isEmpty, recordsAtMost}
-use Rattle.document.specs.Valid.{isText, isMeal, isUnitFor, ifGiven, valid, validFields, validDetail, timedRecords, detailRecords, objectRecords, objectsRecords, joined, given, detailStrings, objectStrings, strings}
-use Rattle.document.specs.Table.{recordsInTable, noRecord, dateCell, withZone, textCell, lengthOf, timesRows, segmentsRows, timedRows, detailRows, objectRows, objectsRows, filled, headOf, tableOf}
+use Rattle.document.specs.Valid.{isText, isMeal, isUnitFor, ifGiven, valid, validFields, validDetail, timedRecords, detailRecords, objectRecords, objectsRecords, given, detailStrings, objectStrings, strings}
+use Rattle.document.specs.Table.{recordsInTable, noRecord, dateCell, textCell, lengthOf, timesRows, segmentsRows, timedRows, detailRows, objectRows, objectsRows, filled, headOf, tableOf}
 use Rattle.document.specs.Words.{allWords}
-use Rattle.document.specs.Untable.{Grown, grown, part, detailNext, textOf, dateOf, zoneOf, mealOf, posologyOf}
+use Rattle.document.specs.Untable.{Grown, part, detailNext, textOf, dateOf, mealOf, posologyOf}
 use Rattle.document.specs.declared.table.Record.{Record}
 use Rattle.document.proofs.Good.{and-left, and-right}
 use Rattle.document.proofs.Parts.{all-nine}

@@ -1,20 +1,19 @@
 -- The records of a posology stand for it.
-use mathlib.Core.Path.{_≡_, refl, ap, sym, subst, _∙_}
+use mathlib.Core.Path.{_≡_, refl, ap, sym, _∙_}
 use mathlib.Core.List.{List, [], _∷_, _++_, append-assoc, append-nil}
-use mathlib.Core.Bool.{Bool, true, false, not, _&&_, true≢false, false≢true}
+use mathlib.Core.Bool.{true, _&&_, false≢true}
 use Prim.Native.Nat.{ℕ, zero, suc, _+_, _-_, _/_, _≤_}
 use native.Mathlib.Omega.{arith}
 use lib.ListN.{length, take, drop, length-append}
 use lib.Seq.{take-at, drop-at}
-use Rattle.json.specs.Rows.{choose}
 use Rattle.document.specs.Posology as P
 use Rattle.document.specs.Posology.{Dosage, AtTime, InSegment, Timed, Detail, SequenceObject, SequenceObjects}
 use Rattle.document.specs.Date.{among}
 use Rattle.document.specs.Schema.{underDays, underSingle, underCyclic}
-use Rattle.document.specs.Valid.{every, isDays, isDuration, isTimeUnit, isText, validDosage, validAtTime, validInSegment, validTimed, validDetail, validObject, validObjects, someObject, timedRecords, detailRecords, objectRecords, objectsRecords, joined, detailStrings, objectStrings, objectsStrings}
+use Rattle.document.specs.Valid.{isDays, isDuration, isTimeUnit, validTimed, validDetail, validObject, validObjects, someObject, detailRecords, objectRecords, objectsRecords, joined, detailStrings, objectStrings, objectsStrings}
 use Rattle.document.specs.Table.{dosageRow, timesRows, segmentsRows, timedRows, detailRows, objectRows, objectsRows, daySet}
-use Rattle.document.specs.Words.{Words, recordWords, allWords}
-use Rattle.document.specs.Untable.{Grown, grown, within, dosageOf, dosageNext, daysOf, timesNext, segmentsNext, timedNext, part, detailNext, objectsNext, andThen}
+use Rattle.document.specs.Words.{recordWords, allWords}
+use Rattle.document.specs.Untable.{Grown, grown, within, dosageOf, daysOf, timesNext, segmentsNext, timedNext, part, detailNext, objectsNext, andThen}
 use Rattle.document.specs.declared.table.Record.{Record}
 use Rattle.document.proofs.Good.{and-left, and-right}
 use Rattle.document.proofs.DaySets.{set-back}
@@ -81,7 +80,7 @@ mutual
   detail-append (P.cyclic u du td per) k = refl
   detail-append (P.sequence os) k = objects-append os k
 
-  object-append : (o : SequenceObject) (k : List ℕ) → objectStrings o k ≡ objectStrings o [] ++ k
+  pub object-append : (o : SequenceObject) (k : List ℕ) → objectStrings o k ≡ objectStrings o [] ++ k
   object-append (P.posologySequence du u po) k = detail-append po k
   object-append (P.pause du u) k = refl
 

@@ -1,20 +1,20 @@
 -- What is UTF-8 by RFC 3629's syntax passes the test.
-use Prim.Native.Nat.{ℕ, suc, _<_, _≤_}
+use Prim.Native.Nat.{ℕ, _<_, _≤_}
 use mathlib.Core.Path.{_≡_, refl}
-use mathlib.Core.List.{List, [], _∷_}
-use mathlib.Core.Bool.{Bool, true, false, _&&_}
-use mathlib.Core.Option.{Option, none, some}
+use mathlib.Core.List.{List, _∷_}
+use mathlib.Core.Bool.{true}
+use mathlib.Core.Option.{Option, none}
 use native.Mathlib.Omega.{arith}
 use borrow.Author.Tests.{lt-ltb, le-ltb}
-use Rattle.json.specs.Rows.{Rows, look}
+use Rattle.json.specs.Rows.{look}
 use Rattle.json.specs.Byte.{within}
-use Rattle.json.specs.Tree.{Tree, object, list, string, number, bool, null, Members, noMember, member, Elements, noElement, element}
+use Rattle.json.specs.Tree.{Tree, Members, Elements}
 use Rattle.json.specs.Grammar as G
 use Rattle.spelling.specs.Utf8.{Utf8}
 use Rattle.spelling.specs.Utf8 as U
 use Rattle.spelling.proofs.Tables.{each}
 use Rattle.spelling.proofs.Encoded.{chars-utf8}
-use Rattle.document.specs.Utf8.{Within, from, tail, followRows, goOn, wellFormed, isUtf8}
+use Rattle.document.specs.Utf8.{Within, followRows, goOn, wellFormed, isUtf8}
 use Rattle.document.proofs.Good.{and-both}
 use Rattle.document.proofs.Sound.{Utf8Tree, Utf8Members, Utf8Elements}
 

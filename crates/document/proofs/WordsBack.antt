@@ -6,7 +6,7 @@ use Prim.Native.Nat.{ℕ}
 use lib.Dec.{eqb}
 use lib.ListN.{getD, drop}
 use Rattle.json.specs.Rows.{choose}
-use Rattle.document.specs.Words.{Words, words, dosageWords, kindWords, recordWords, allWords, row, rows, flag, dateWords, textWords, headWords, tableWords}
+use Rattle.document.specs.Words.{Words, words, dosageWords, kindWords, recordWords, allWords, rows, tableWords}
 use Rattle.document.specs.declared.table.Text.{Text}
 use Rattle.document.specs.declared.table.Date.{Date}
 use Rattle.document.specs.declared.table.Date.the-variants as D

@@ -1,15 +1,15 @@
 -- Numbers as they are written in a plain text mean what was written.
-use mathlib.Core.Path.{_≡_, refl, ap, sym, subst, _∙_}
+use mathlib.Core.Path.{_≡_, refl, ap, sym, _∙_}
 use mathlib.Core.List.{List, [], _∷_}
-use mathlib.Core.Bool.{Bool, true, false, cond, not, _&&_, _||_, true≢false, false≢true}
-use Prim.Native.Nat.{ℕ, zero, suc, _+_, _*_, _-_, _/_, _%_, _≤_, _<_}
+use mathlib.Core.Bool.{Bool, true, false, not, _||_}
+use Prim.Native.Nat.{ℕ, zero, suc, _+_, _*_, _/_, _%_, _≤_, _<_}
 use native.Mathlib.Omega.{arith}
-use lib.Dec.{eqb, leb, ltb}
+use lib.Dec.{eqb, leb}
 use lib.ListN.{length, drop, drop-of-length-le}
-use borrow.Author.Tests.{leb-true, leb-false, le-leb, lt-ltb, le-ltb, ne-eqb, eqb-true, eqb-false}
+use borrow.Author.Tests.{leb-true, le-leb, lt-ltb, le-ltb, ne-eqb, eqb-true}
 use Rattle.json.specs.Rows.{choose, look}
 use Rattle.numbers.specs.Number.{carried, negative, exponent, beforePoint, behindPoint, figure, counted, allZero, rounded, up, padded, millionths}
-use Rattle.document.specs.Schema.{NumberShape, integer, decimal}
+use Rattle.document.specs.Schema.{integer, decimal}
 use Rattle.document.specs.Spells.{DigitsMean}
 use Rattle.document.specs.Plain.{wholeDigits, fractionDigits, pointed}
 use Rattle.document.proofs.Good.{and-both}

@@ -1,14 +1,14 @@
 -- Dates and times as they are written in a plain text mean what was written.
 use mathlib.Core.Path.{_≡_, refl, ap, sym, subst, _∙_}
 use mathlib.Core.List.{List, [], _∷_}
-use mathlib.Core.Bool.{Bool, true, false, cond, _&&_, _||_, true≢false, false≢true}
+use mathlib.Core.Bool.{Bool, true, false, cond, _&&_, _||_, false≢true}
 use mathlib.Core.Option.{Option, none, some}
 use Prim.Native.Nat.{ℕ, _+_, _*_, _-_, _/_, _%_, _≤_, _<_}
 use native.Mathlib.Omega.{arith}
 use lib.Dec.{eqb, leb}
-use borrow.Author.Tests.{leb-true, leb-false, le-leb, eqb-true, eqb-false, ne-eqb}
+use borrow.Author.Tests.{leb-true, le-leb, eqb-true, ne-eqb}
 use Rattle.document.specs.Posology.{Day, Zone, east, west, Date, bare, moment}
-use Rattle.document.specs.Date.{among, leap, daysIn, isDay, isZone, isSecond, isDate, isDigit, pair, Behind, two, then, mark, only, clock, alone, seconds, atMinute, timeOf, dayOf, minutesWest, signed, zone, momentOf, bareOr, dateOf}
+use Rattle.document.specs.Date.{among, leap, daysIn, isDay, isZone, isSecond, isDate, isDigit, pair, Behind, two, then, only, clock, seconds, timeOf, dayOf, minutesWest, zone, dateOf}
 use Rattle.document.specs.Plain as P
 use Rattle.document.proofs.Good.{and-both, and-left, and-right}
 

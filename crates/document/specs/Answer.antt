@@ -1,20 +1,19 @@
 -- Document 01, "Answers by number": the answer to some bytes for a use and a room, as one function, and what it leaves in the lent buffers.
 use mathlib.Core.Path.{_≡_}
 use mathlib.Core.List.{List, [], _∷_, _++_}
-use mathlib.Core.Bool.{Bool, true, false, cond, _||_}
-use Prim.Native.Nat.{ℕ, _-_}
-use lib.Dec.{eqb, leb, ltb}
+use mathlib.Core.Bool.{cond, _||_}
+use Prim.Native.Nat.{ℕ}
+use lib.Dec.{leb, ltb}
 use lib.ListN.{length, drop}
 use Rattle.json.specs.Rows.{choose}
 use Rattle.json.specs.Byte.{blanked}
-use Rattle.json.specs.Tree.{Place, placeIn, Tree}
+use Rattle.json.specs.Tree.{placeIn}
 use Rattle.json.specs.Walk.{Walked, end, refused2, refused3, firstObject, oneObject, walk}
 use Rattle.moving.specs.Read.{treeOf}
 use Rattle.document.specs.Posology.{Posology}
-use Rattle.document.specs.Visit.{Left, Outcome, done, refuse, visit}
+use Rattle.document.specs.Visit.{Outcome, done, refuse, visit}
 use Rattle.document.specs.Valid.{isUse, roomOf, strings}
 use Rattle.document.specs.Table.{tableOf, emptyTable}
-use Rattle.document.specs.declared.table.Table.{Table}
 use Rattle.document.specs.declared.table.Answer.{Answer}
 use Rattle.document.specs.declared.table.Answer.the-variants as A
 use Rattle.document.specs.declared.table.Reading.{Reading}

@@ -1,9 +1,9 @@
 -- Document 01, "Dates" and "Times": the bytes of a date or a time of day, and what they mean.
 use mathlib.Core.List.{List, [], _∷_}
-use mathlib.Core.Bool.{Bool, true, false, cond, _&&_, _||_, not}
+use mathlib.Core.Bool.{Bool, true, false, cond, _&&_, _||_}
 use mathlib.Core.Option.{Option, none, some}
 use Prim.Native.Nat.{ℕ, _+_, _*_, _-_, _%_}
-use lib.Dec.{eqb, leb, ltb}
+use lib.Dec.{eqb, leb}
 use Rattle.json.specs.Rows.{choose}
 use Rattle.document.specs.Posology.{Day, Zone, east, west, Date, bare, moment}
 

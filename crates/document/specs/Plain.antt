@@ -3,10 +3,9 @@
 use mathlib.Core.List.{List, [], _∷_}
 use mathlib.Core.Bool.{Bool, true, false, not}
 use mathlib.Core.Option.{Option, none, some}
-use Prim.Native.Nat.{ℕ, zero, suc, _+_, _*_, _/_, _%_}
+use Prim.Native.Nat.{ℕ, zero, suc, _+_, _/_, _%_}
 use Prim.Native.String.{String}
 use lib.Dec.{eqb, leb}
-use lib.ListN.{length}
 use Rattle.json.specs.Rows.{choose}
 use Rattle.json.specs.Tree.{Tree, object, list, string, number, bool, Members, noMember, member, Elements, noElement, element}
 use Rattle.document.specs.Bytes.{bytes}

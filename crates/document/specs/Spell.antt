@@ -2,7 +2,7 @@
 use mathlib.Core.List.{List, [], _∷_, _++_}
 use mathlib.Core.Bool.{Bool, true, false}
 use Prim.Native.Nat.{ℕ, _+_, _/_, _%_}
-use Rattle.json.specs.Rows.{Rows, else, below, look}
+use Rattle.json.specs.Rows.{else, below, look}
 use Rattle.json.specs.Tree.{Tree, object, list, string, number, bool, null, Members, noMember, member, Elements, noElement, element}
 use Rattle.document.specs.Bytes.{bytes}
 

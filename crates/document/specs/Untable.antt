@@ -1,9 +1,9 @@
 -- The posology that a table stands for. Of a table that no text reads to it is some posology, and its own table is another.
 use mathlib.Core.List.{List, [], _∷_}
-use mathlib.Core.Bool.{Bool, true, false, cond, _&&_}
+use mathlib.Core.Bool.{Bool, true, false, cond}
 use mathlib.Core.Option.{Option, none, some}
-use Prim.Native.Nat.{ℕ, zero, suc, _+_, _-_, _/_, _%_, _^_}
-use lib.Dec.{eqb, leb}
+use Prim.Native.Nat.{ℕ, zero, suc, _+_, _-_, _/_, _%_}
+use lib.Dec.{eqb}
 use lib.ListN.{length, take, drop}
 use Rattle.json.specs.Rows.{choose}
 use Rattle.document.specs.Posology as P

@@ -2,12 +2,12 @@
 -- It is said of the posology alone: nothing here looks at a text.
 use mathlib.Core.Path.{_≡_}
 use mathlib.Core.List.{List, [], _∷_}
-use mathlib.Core.Bool.{Bool, true, false, cond, not, _&&_, _||_}
+use mathlib.Core.Bool.{Bool, true, false, not, _&&_, _||_}
 use mathlib.Core.Option.{Option, none, some}
 use Prim.Native.Nat.{ℕ, zero, suc, _+_, _≤_, min}
 use lib.Dec.{eqb, leb, ltb}
 use lib.ListN.{length}
-use Rattle.document.specs.Posology.{Date, Dosage, simple, fromTo, range, AtTime, atTime, InSegment, inSegment, Timed, dosageOnly, times, daySegments, weekDays, daysOfMonth, interval, Detail, daily, freeText, single, cyclic, sequence, SequenceObject, posologySequence, pause, SequenceObjects, noObject, objectThen, Posology}
+use Rattle.document.specs.Posology.{Dosage, simple, fromTo, range, AtTime, atTime, InSegment, inSegment, Timed, dosageOnly, times, daySegments, weekDays, daysOfMonth, interval, Detail, daily, freeText, single, cyclic, sequence, SequenceObject, posologySequence, pause, SequenceObjects, noObject, objectThen, Posology}
 use Rattle.document.specs.Utf8.{isUtf8}
 use Rattle.document.specs.Date.{among, isDay, isDate, isSecond, inOrder}
 use Rattle.document.specs.Schema.{greatestInteger, greatestDecimal, mealCodes, sequencesInside, underSingle, underDays, underCyclic}

@@ -1,6 +1,6 @@
 -- A table as numbers: six to a record, its tag, the records below it and four values; and the head's.
 -- Two tables are told apart by them, and the hospital side lays them into the lent area.
-use mathlib.Core.List.{List, [], _∷_, _++_}
+use mathlib.Core.List.{List, [], _∷_}
 use mathlib.Core.Bool.{Bool, true, false}
 use Prim.Native.Nat.{ℕ}
 use Rattle.document.specs.declared.table.Text.{Text}

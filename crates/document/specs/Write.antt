@@ -1,22 +1,21 @@
 -- Document 01, "Answers by number", the writer: 17, 18, 19; and handing out the text of a record or head field.
 use mathlib.Core.Path.{_≡_}
-use mathlib.Core.List.{List, [], _∷_, _++_}
-use mathlib.Core.Bool.{Bool, true, false, cond, _&&_}
+use mathlib.Core.List.{List, []}
+use mathlib.Core.Bool.{Bool, cond, _&&_}
 use Prim.Native.Nat.{ℕ, _+_}
-use lib.Dec.{eqb, leb, ltb}
+use lib.Dec.{leb}
 use lib.ListN.{length, take, drop, getD}
 use Rattle.json.specs.Rows.{choose}
 use Rattle.document.specs.Lookup.{same}
 use Rattle.document.specs.Posology.{Posology}
 use Rattle.document.specs.Valid.{isUse, valid, strings}
-use Rattle.document.specs.Table.{tableOf, noRecord, recordsInTable}
+use Rattle.document.specs.Table.{tableOf, noRecord}
 use Rattle.document.specs.Words.{tableWords}
 use Rattle.document.specs.Untable.{posologyOf}
 use Rattle.document.specs.Plain.{plain, plainThen}
 use Rattle.document.specs.Answer.{Values, ends, number, laid}
 use Rattle.document.specs.declared.table.Table.{Table}
 use Rattle.document.specs.declared.table.Head.{Head}
-use Rattle.document.specs.declared.table.Record.{Record}
 use Rattle.document.specs.declared.table.Text.{Text}
 use Rattle.document.specs.declared.table.Kind.{Kind}
 use Rattle.document.specs.declared.table.Kind.the-variants as K

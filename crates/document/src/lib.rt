@@ -1,2 +1,3 @@
 // Document 01: its definitions (specs/), the demands proved over them (proofs/), and the types of the table.
 pub mod table;
+pub mod uses;

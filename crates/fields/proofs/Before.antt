@@ -8,7 +8,7 @@ use native.Mathlib.Omega.{arith}
 use Rattle.json.specs.Tree.{Place}
 use Rattle.moving.specs.Moving.{nextAfter, valueOf}
 use Rattle.moving.specs.Read.{decoded}
-use Rattle.strings.specs.Strings as S
+use Rattle.naming.specs.Naming as S
 use Rattle.document.specs.Lookup.{same, has}
 use Rattle.fields.specs.Names.{namesFrom}
 

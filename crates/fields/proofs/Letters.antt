@@ -12,10 +12,10 @@ use Rattle.json.specs.String.{isAscii, lead, after}
 use Rattle.json.specs.declared.string.Lead.{Lead}
 use Rattle.json.specs.declared.string.Lead.the-variants.{Ascii}
 use Rattle.json.specs.declared.string.InString.the-variants.{Plain}
-use Rattle.strings.specs.Strings.{plainFrom, ahead, Sound}
-use Rattle.strings.specs.declared.Cursor.{Cursor}
-use Rattle.strings.proofs.Ahead.{rest-closes}
-use Rattle.strings.proofs.Ascii.{ascii-from}
+use Rattle.characters.specs.Characters.{plainFrom, ahead, Sound}
+use Rattle.characters.specs.declared.Cursor.{Cursor}
+use Rattle.characters.proofs.Ahead.{rest-closes}
+use Rattle.characters.proofs.Ascii.{ascii-from}
 use Rattle.fields.specs.Names.{Packs}
 use Rattle.fields.specs.declared.names.Packed.{Packed}
 

@@ -2,12 +2,12 @@
 use Prim.Native.Nat.{ℕ, zero, suc, _+_, _-_, _<_, _≤_}
 use mathlib.Core.Path.{_≡_, refl, sym, ap, subst, _∙_}
 use mathlib.Core.List.{List, [], _∷_}
-use mathlib.Core.Bool.{Bool, true, false, _||_, false≢true}
+use mathlib.Core.Bool.{Bool, true, false, not, _||_, false≢true}
 use lib.ListN.{length, getD, drop, length-drop}
-use lib.Dec.{eqb, ltb}
+use lib.Dec.{eqb}
 use native.Mathlib.Numerals.{add-one}
 use native.Mathlib.Omega.{arith}
-use borrow.Author.Tests.{ltb-true}
+use borrow.Author.Tests.{ne-eqb}
 use Rattle.json.specs.Tree.{Place, object, Members, noMember, member, Moves}
 use Rattle.moving.specs.Moving.{firstIn, nextAfter, atEnd, valueOf as behindName}
 use Rattle.moving.specs.Read.{decoded, treeAt, membersAt}
@@ -15,7 +15,7 @@ use Rattle.spelling.proofs.Moved.{members-in}
 use Rattle.document.specs.Lookup.{same, has, repeated}
 use Rattle.document.specs.Visit.{entriesOf}
 use Rattle.fields.specs.At.{At}
-use Rattle.fields.specs.Names.{nameAt, indexOf, namesFrom, standsAgain, seenOnce, seenAgain, Settled}
+use Rattle.fields.specs.Names.{nameAt, indexOf, namesFrom, seenOnce, seenAgain, Settled}
 use Rattle.fields.proofs.Numbered.{same-eq, name-is, named-same}
 use Rattle.fields.proofs.Before.{behind, behind-more, names-more}
 use Rattle.fields.proofs.Rest.{Rest, Stands, rest-in, rest-one, rest-none, stands-at, first-above}
@@ -105,15 +105,17 @@ module _ {text : List ℕ} {at : ℕ} {ms : Members} {slots : List ℕ} {m q : �
   settled-all h = let z : length text - m ≡ 0 = omega arith in over (s .turns ∙ rw z (members-none (drop q text)))
 
   -- whether a name stood before
-  pub again-is : (k : ℕ) → k ≡ indexOf (decoded (drop q text)) → standsAgain text at m q k slots ≡ has (decoded (drop q text)) (s .seen)
-  again-is k e = go (ltb k 33) refl
-    where
-      go : (x : Bool) → ltb k 33 ≡ x → standsAgain text at m q k slots ≡ has (decoded (drop q text)) (s .seen)
-      go true h =
-          let l = ltb-true k 33 h in
-          let is : decoded (drop q text) ≡ nameAt k = rw (← e) at (name-is (decoded (drop q text)) (rw (← e) l)) in
-          rw (h, is) (slotted-has (s .slot k l))
-      go false h = rw h (sym (s .before (decoded (drop q text))))
+  module _ (k : ℕ) (l : k < 33) (e : k ≡ indexOf (decoded (drop q text))) where
+    again-is : not (eqb (getD slots k 0) 0) ≡ has (decoded (drop q text)) (s .seen)
+    again-is =
+        let is : decoded (drop q text) ≡ nameAt k = rw (← e) at (name-is (decoded (drop q text)) (rw (← e) l)) in
+        rw is (slotted-has (s .slot k l))
+
+    pub stood : (getD slots k 0 ≡ 0 → ⊥) → has (decoded (drop q text)) (s .seen) ≡ true
+    stood f = sym again-is ∙ ap not (ne-eqb (getD slots k 0) 0 f)
+
+    pub not-stood : getD slots k 0 ≡ 0 → has (decoded (drop q text)) (s .seen) ≡ false
+    not-stood z = sym again-is ∙ rw z
 
   module _ (stays : atEnd (drop q text) ≡ false) where
     one : Stands (s .left) (drop q text)

@@ -13,18 +13,18 @@ use Rattle.document.specs.Lookup.{same, has}
 use Rattle.fields.specs.Names.{firstSlot, slotName, Searched}
 use Rattle.fields.proofs.Numbered.{same-self, same-eq}
 
-pub record Kept (text table n : List ℕ) : Type 0 where
+pub record Kept (seed : ℕ) (text table n : List ℕ) : Type 0 where
   pub slot : ℕ
-  pub from : firstSlot n ≤ slot
-  pub filled : (j : ℕ) → j < slot → firstSlot n ≤ j → 0 < getD table j 0
+  pub from : firstSlot seed n ≤ slot
+  pub filled : (j : ℕ) → j < slot → firstSlot seed n ≤ j → 0 < getD table j 0
   pub is : slot < 8192 → (0 < getD table slot 0) × (slotName text table slot ≡ n)
 
-pub record Tabled (text table : List ℕ) (seen : List (List ℕ)) : Type 0 where
+pub record Tabled (seed : ℕ) (text table : List ℕ) (seen : List (List ℕ)) : Type 0 where
   pub size : length table ≡ 8192
   pub sound : (j : ℕ) → j < 8192 → 0 < getD table j 0 → has (slotName text table j) seen ≡ true
-  pub whole : (n : List ℕ) → has n seen ≡ true → Kept text table n
+  pub whole : (n : List ℕ) → has n seen ≡ true → Kept seed text table n
 
-pub tabled-none : {text table : List ℕ} → length table ≡ 8192 → ((j : ℕ) → j < 8192 → getD table j 0 ≡ 0) → Tabled text table []
+pub tabled-none : {seed : ℕ} {text table : List ℕ} → length table ≡ 8192 → ((j : ℕ) → j < 8192 → getD table j 0 ≡ 0) → Tabled seed text table []
 tabled-none size zeros =
     record {
       size = size;
@@ -58,12 +58,12 @@ either : (a : Bool) {b : Bool} → b ≡ true → a || b ≡ true
 either true e = refl
 either false e = e
 
-module _ {text table : List ℕ} {seen : List (List ℕ)} (t : Tabled text table seen) {n : List ℕ} {r : ℕ} (s : Searched text n table r) where
+module _ {seed : ℕ} {text table : List ℕ} {seen : List (List ℕ)} (t : Tabled seed text table seen) {n : List ℕ} {r : ℕ} (s : Searched seed text n table r) where
   found : r < 8192 → 0 < getD table r 0 → has n seen ≡ true
   found h p = subst (λ x. has x seen ≡ true) (sym (same-eq n (slotName text table r) (s .ends h p))) (t .sound r h p)
 
   -- the search would have met it
-  nowhere : r < 8192 → getD table r 0 ≡ 0 → Kept text table n → ⊥
+  nowhere : r < 8192 → getD table r 0 ≡ 0 → Kept seed text table n → ⊥
   nowhere h z k = go (ltb (k .slot) r) (ltb r (k .slot)) refl refl
     where
       go : (x y : Bool) → ltb (k .slot) r ≡ x → ltb r (k .slot) ≡ y → ⊥
@@ -97,7 +97,7 @@ module _ {text table : List ℕ} {seen : List (List ℕ)} (t : Tabled text table
     stays : (j : ℕ) → 0 < getD table j 0 → getD after j 0 ≡ getD table j 0
     stays j p = e .other j (λ h i. free h (rw i at p))
 
-    kept : (m : List ℕ) → Kept text table m → Kept text after m
+    kept : (m : List ℕ) → Kept seed text table m → Kept seed text after m
     kept m k =
         record {
           slot = k .slot;
@@ -112,7 +112,7 @@ module _ {text table : List ℕ} {seen : List (List ℕ)} (t : Tabled text table
     unfolding slotName
     name-here h = rw (e .here h) named
 
-    here : Kept text after n
+    here : Kept seed text after n
     here =
         record {
           slot = r;
@@ -121,7 +121,7 @@ module _ {text table : List ℕ} {seen : List (List ℕ)} (t : Tabled text table
           is = λ h. (rw (e .here h) pos, name-here h);
         }
 
-    pub tabled-on : Tabled text after (n ∷ seen)
+    pub tabled-on : Tabled seed text after (n ∷ seen)
     tabled-on = record { size = e .size ∙ t .size; sound = λ j h p. sounds j h p (eqb j r) refl; whole = λ m h. wholes m h (same m n) refl }
       where
         sounds : (j : ℕ) → j < 8192 → 0 < getD after j 0 → (x : Bool) → eqb j r ≡ x → has (slotName text after j) (n ∷ seen) ≡ true
@@ -133,6 +133,6 @@ module _ {text table : List ℕ} {seen : List (List ℕ)} (t : Tabled text table
             let was = e .other j (λ l. eqb-false j r i) in
             rw (name-at text table after j was) (either (same (slotName text table j) n) (t .sound j h (rw was at p)))
 
-        wholes : (m : List ℕ) → has m (n ∷ seen) ≡ true → (x : Bool) → same m n ≡ x → Kept text after m
+        wholes : (m : List ℕ) → has m (n ∷ seen) ≡ true → (x : Bool) → same m n ≡ x → Kept seed text after m
         wholes m h true i = rw (same-eq m n i) here
         wholes m h false i = kept m (t .whole m (rw i at h))

@@ -95,21 +95,23 @@ pub record Once (text : List ℕ) (es : List (Entry Value)) (members : ℕ) (slo
   pub count : members ≡ length es
   pub size : length slots ≡ 33
 
--- Whether the name at `quote`, of number k, stood before it in the object at `at`.
-abbrev pub standsAgain : List ℕ → ℕ → ℕ → ℕ → ℕ → List ℕ → Bool
-standsAgain text at members quote k slots =
-    cond (ltb k 33) (not (eqb (getD slots k 0) 0)) (has (decoded (drop quote text)) (namesFrom members (firstIn (drop at text))))
+-- A hash, byte by byte.
+abbrev factor : ℕ → ℕ → ℕ
+factor seed h = 0x80000000 + (seed % 0x100000000 + h % 0x10000 * 0x4000) % 0x40000000
 
--- A name's hash, byte by byte, and the slot at which the search for it starts.
-unfoldable pub hashOn : ℕ → ℕ → ℕ
-hashOn h b = (h % 0x100000000 + b + 1) * 0x9E3779B1 / 0x10000 % 0x100000000
+unfoldable pub hashOn : ℕ → ℕ → ℕ → ℕ
+hashOn seed h b = (h % 0x100000000 + b + 1) * factor seed h / 0x10000 % 0x100000000
 
-unfoldable pub hashFrom : ℕ → List ℕ → ℕ
-hashFrom h [] = h
-hashFrom h (b ∷ s) = hashFrom (hashOn h b) s
+unfoldable pub hashFrom : ℕ → ℕ → List ℕ → ℕ
+hashFrom seed h [] = h
+hashFrom seed h (b ∷ s) = hashFrom seed (hashOn seed h b) s
 
-unfoldable pub firstSlot : List ℕ → ℕ
-firstSlot n = hashFrom 0 n % 8053
+-- A text's own seed, and the slot at which the search for a name starts.
+unfoldable pub seedOf : List ℕ → ℕ
+seedOf text = hashFrom 0x1E3779B1 0 (take 65535 text)
+
+unfoldable pub firstSlot : ℕ → List ℕ → ℕ
+firstSlot seed n = hashFrom seed 0 n % 8053
 
 -- The name whose place a slot has.
 unfoldable pub slotName : List ℕ → List ℕ → ℕ → List ℕ
@@ -117,11 +119,17 @@ unfolding decoded
 slotName text table i = decoded (drop (getD table i 0 - 1) text)
 
 -- The search for a name passes the names of others, and ends at its own, at an empty slot, or behind them all.
-pub record Searched (text n table : List ℕ) (r : ℕ) : Type 0 where
-  pub from : firstSlot n ≤ r
-  pub passed : (j : ℕ) → j < r → firstSlot n ≤ j → (0 < getD table j 0) × (same n (slotName text table j) ≡ false)
+pub record Searched (seed : ℕ) (text n table : List ℕ) (r : ℕ) : Type 0 where
+  pub from : firstSlot seed n ≤ r
+  pub passed : (j : ℕ) → j < r → firstSlot seed n ≤ j → (0 < getD table j 0) × (same n (slotName text table j) ≡ false)
   pub ends : r < 8192 → 0 < getD table r 0 → same n (slotName text table r) ≡ true
 
+-- A place from 65535 on has no room in a slot.
+pub record Sought (seed : ℕ) (text : List ℕ) (quote : ℕ) (table : List ℕ) (r : ℕ) : Type 0 where
+  pub near : quote < 65535 → Searched seed text (decoded (drop quote text)) table r
+  pub far : 65535 ≤ quote → r ≡ 8192
+
+-- Whether the name at `quote` stood before it in the object at `at`, where the search for it ended at slot i.
 abbrev pub stoodIn : List ℕ → ℕ → ℕ → ℕ → List ℕ → ℕ → Bool
 stoodIn text at members quote table i =
     cond (ltb i 8192) (not (eqb (getD table i 0) 0)) (has (decoded (drop quote text)) (namesFrom members (firstIn (drop at text))))

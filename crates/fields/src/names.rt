@@ -2,7 +2,6 @@
 use scan::string as spelled;
 ghost use mathlib.Core.Path.{_≡_};
 ghost use mathlib.Core.Bool.{true};
-ghost use Prim.Native.Nat.{_<_};
 ghost use lib.ListN.{length, drop};
 ghost use Rattle.moving.specs.Moving.{firstIn};
 ghost use Rattle.moving.specs.Read.{decoded};
@@ -12,7 +11,7 @@ ghost use Prim.Native.Nat.{ℕ, _-_, _%_};
 ghost use Rattle.document.specs.Lookup.{has, unknown};
 ghost use Rattle.document.specs.Visit.{entriesOf};
 ghost use Rattle.fields.specs.At.{At};
-ghost use Rattle.fields.specs.Names.{indexOf, shortIndex, Packs, namesFrom, standsAgain, membersIn, Settles, Once, rowNames, isIn, isRow, standingOf, Tells, hashOn, firstSlot, Searched, stoodIn, seenOnce, seenAgain};
+ghost use Rattle.fields.specs.Names.{indexOf, shortIndex, Packs, namesFrom, membersIn, Settles, Once, rowNames, isIn, isRow, standingOf, Tells, hashOn, seedOf, firstSlot, Sought, stoodIn, seenOnce, seenAgain};
 
 pub const T: usize = 0;
 
@@ -153,9 +152,9 @@ fn packed_decoded(text: &[u8], quote: usize) -> Packed
 {
     let mut p = no_letter();
     let mut n: usize = 0;
-    let mut c = strings::start(text, quote);
+    let mut c = characters::start(text, quote);
     loop {
-        let next = strings::next(text, c);
+        let next = characters::next(text, c);
         if !next.some {
             return p;
         }
@@ -239,7 +238,7 @@ fn stood_before(text: &[u8], at: usize, members: usize, quote: usize) -> bool
     let mut q = moving::first_in(text, at);
     let mut left = members;
     while 0 < left {
-        if strings::names_same(text, quote, q) {
+        if naming::names_same(text, quote, q) {
             return true;
         }
         q = moving::next_after(text, moving::value_of(text, q));
@@ -248,34 +247,38 @@ fn stood_before(text: &[u8], at: usize, members: usize, quote: usize) -> bool
     false
 }
 
-// Whether the name at `quote`, of number k, stood before: a slot says it of document 01's names.
-fn stands_again(
-    text: &[u8],
-    at: usize,
-    members: usize,
-    quote: usize,
-    k: usize,
-    slots: [usize; NAMES],
-) -> bool
-    ensures { λ r. ⌜ r ≡ standsAgain (now (text .entry)) at members quote k slots ⌝ }
-{
-    if k < NAMES {
-        return slots[k] != 0;
-    }
-    stood_before(text, at, members, quote)
-}
-
 // The slots of a table of names: 0 where there is none, else the name's place and one more.
 const TABLE: usize = 8192;
 
-// Of a text shorter than this every place has room in a slot. Document 01's texts are at most half as long.
+// A place from here on has no room in a slot. Document 01's texts are at most half as long, though the run that one begins may be longer.
 const PLACES: usize = 65535;
 
 // One byte more in a hash: the middle of a product, so that names which differ in a digit or two do not start side by side.
-fn hash_on(h: u64, b: u8) -> u64
-    ensures { λ r. ⌜ r ≡ hashOn h b ⌝ }
+// The factor depends on the seed and on what came before: were it one for all, names that meet under one seed would often meet under another.
+fn hash_on(seed: u64, h: u64, b: u8) -> u64
+    ensures { λ r. ⌜ r ≡ hashOn seed h b ⌝ }
 {
-    (h % 0x100000000 + wide(b) + 1) * 0x9E3779B1 / 0x10000 % 0x100000000
+    let factor = 0x80000000 + (seed % 0x100000000 + h % 0x10000 * 0x4000) % 0x40000000;
+    (h % 0x100000000 + wide(b) + 1) * factor / 0x10000 % 0x100000000
+}
+
+// The seed of the texts' own seeds: any number whose bits are mixed would do, as these of the golden ratio.
+const GOLDEN: u64 = 0x1E3779B1;
+
+// A text's own seed, so that names which meet in one slot have to be found anew for every text. What lies behind the table's places is left out.
+fn seed_of(text: &[u8]) -> u64
+    ensures { λ r. ⌜ r ≡ seedOf (now (text .entry)) ⌝ }
+{
+    let mut h: u64 = 0;
+    let mut i: usize = 0;
+    while i < text.len() {
+        if PLACES <= i {
+            return h;
+        }
+        h = hash_on(GOLDEN, h, text[i]);
+        i += 1;
+    }
+    h
 }
 
 // Where the search for a name of this hash starts. The last slots are no start, so that few searches reach the end.
@@ -285,27 +288,27 @@ fn start_of(h: u64) -> usize
     (h % 8053) as usize
 }
 
-fn start_decoded(text: &[u8], quote: usize) -> usize
-    ensures { λ r. ⌜ r ≡ firstSlot (decoded (drop quote (now (text .entry)))) ⌝ }
+fn start_decoded(text: &[u8], quote: usize, seed: u64) -> usize
+    ensures { λ r. ⌜ r ≡ firstSlot seed (decoded (drop quote (now (text .entry)))) ⌝ }
 {
     let mut h: u64 = 0;
-    let mut c = strings::start(text, quote);
+    let mut c = characters::start(text, quote);
     loop {
-        let next = strings::next(text, c);
+        let next = characters::next(text, c);
         if !next.some {
             return start_of(h);
         }
-        h = hash_on(h, next.byte);
+        h = hash_on(seed, h, next.byte);
         c = next.cursor;
     }
 }
 
 // The bytes of a name as they are spelled, where they are plain ASCII; else as they are decoded.
-fn first_slot(text: &[u8], quote: usize) -> usize
-    ensures { λ r. ⌜ r ≡ firstSlot (decoded (drop quote (now (text .entry)))) ⌝ }
+fn first_slot(text: &[u8], quote: usize, seed: u64) -> usize
+    ensures { λ r. ⌜ r ≡ firstSlot seed (decoded (drop quote (now (text .entry)))) ⌝ }
 {
     if text.len() <= quote {
-        return start_decoded(text, quote);
+        return start_decoded(text, quote, seed);
     }
     let mut h: u64 = 0;
     let mut i = quote + 1;
@@ -315,12 +318,12 @@ fn first_slot(text: &[u8], quote: usize) -> usize
             return start_of(h);
         }
         if !spelled::is_ascii(b) {
-            return start_decoded(text, quote);
+            return start_decoded(text, quote, seed);
         }
-        h = hash_on(h, b);
+        h = hash_on(seed, h, b);
         i += 1;
     }
-    start_decoded(text, quote)
+    start_decoded(text, quote, seed)
 }
 
 // Of an empty slot any place would do.
@@ -334,17 +337,20 @@ fn place_of(slot: u16) -> usize
     p - 1
 }
 
-// The slot of the name at `quote`, or the first free one behind its start, or TABLE where none is free.
-fn slot_of(text: &[u8], quote: usize, table: &[u16; TABLE]) -> usize
-    ensures { λ r. ⌜ Searched (now (text .entry)) (decoded (drop quote (now (text .entry)))) (now (table .entry)) r ⌝ }
+// The slot of the name at `quote`, or the first free one behind its start, or TABLE where none is free or its place has no room in one.
+fn slot_of(text: &[u8], quote: usize, seed: u64, table: &[u16; TABLE]) -> usize
+    ensures { λ r. ⌜ Sought seed (now (text .entry)) quote (now (table .entry)) r ⌝ }
 {
-    let mut i = first_slot(text, quote);
+    if PLACES <= quote {
+        return TABLE;
+    }
+    let mut i = first_slot(text, quote, seed);
     while i < TABLE {
         let slot = table[i];
         if slot == 0 {
             return i;
         }
-        if strings::names_same(text, quote, place_of(slot)) {
+        if naming::names_same(text, quote, place_of(slot)) {
             return i;
         }
         i += 1;
@@ -394,17 +400,18 @@ fn again(place: usize, members: usize, slots: [usize; NAMES]) -> Seen
 // The members of an object that has an unknown name. It is refused in any case, with 6 where a name stands twice and else with 5
 // (document 01). There may be thousands of names, so each is looked up in a table, and not compared with all before it.
 fn settle_many(text: &[u8], at: usize) -> Seen
-    ensures { λ r. ⌜ (length (now (text .entry)) < 65535 → Settles (now (text .entry)) at r) ⌝ }
+    ensures { λ r. ⌜ Settles (now (text .entry)) at r ⌝ }
 {
     let mut slots = [0usize; NAMES];
     let mut table = [0u16; TABLE];
+    let seed = seed_of(text);
     let mut members: usize = 0;
     let mut q = moving::first_in(text, at);
     while members < text.len() {
         if moving::at_end(text, q) {
             return once(members, slots);
         }
-        let i = slot_of(text, q, &table);
+        let i = slot_of(text, q, seed, &table);
         if stood_in(text, at, members, q, &table, i) {
             return again(q, members, slots);
         }
@@ -423,7 +430,7 @@ fn settle_many(text: &[u8], at: usize) -> Seen
 }
 
 // The members of the object at `at`. Each takes at least a byte, so the length is turns enough. An object whose names are known,
-// as most often, pays for no table.
+// as most often, pays for no table, nor its frame for the room: what is called from two places is compiled apart.
 pub fn settle(text: &[u8], at: usize) -> Seen
     ensures { λ r. ⌜ Settles (now (text .entry)) at r ⌝ }
 {
@@ -436,21 +443,17 @@ pub fn settle(text: &[u8], at: usize) -> Seen
         }
         let k = name_index(text, q);
         if NAMES <= k {
-            if text.len() < PLACES {
-                return settle_many(text, at);
-            }
+            return settle_many(text, at);
         }
-        if stands_again(text, at, members, q, k, slots) {
+        if slots[k] != 0 {
             return again(q, members, slots);
         }
         let v = moving::value_of(text, q);
-        if k < NAMES {
-            slots[k] = v;
-        }
+        slots[k] = v;
         q = moving::next_after(text, v);
         members += 1;
     }
-    once(members, slots)
+    settle_many(text, at)
 }
 
 // The first member whose name is not known where `known` lists the names that are.
@@ -491,8 +494,8 @@ fn first_unknown(text: &[u8], at: usize, known: &[usize]) -> Unknown
 }
 
 // How many of the names stand in the object.
-fn standing(slots: [usize; NAMES], known: &[usize]) -> usize
-    ensures { λ r. ⌜ r ≡ standingOf slots (now (known .entry)) ⌝ }
+fn standing(slots: &[usize; NAMES], known: &[usize]) -> usize
+    ensures { λ r. ⌜ r ≡ standingOf (now (slots .entry)) (now (known .entry)) ⌝ }
 {
     let mut i = 0;
     let mut n: usize = 0;
@@ -518,7 +521,7 @@ pub fn unknown_name(
 ) -> Unknown
     ensures { λ r. ⌜ (isRow (now (known .entry)) ≡ true → (p : Place) (ms : Members) → At (now (text .entry)) at (object p ms) → Once (now (text .entry)) (entriesOf ms) members slots → Tells (now (text .entry)) (unknown (rowNames (now (known .entry))) (entriesOf ms)) r) ⌝ }
 {
-    if standing(slots, known) == members {
+    if standing(&slots, known) == members {
         return Unknown::None;
     }
     first_unknown(text, at, known)

@@ -1,5 +1,6 @@
 pub mod HospitalSide
 pub mod ReadFits
+mod ReadLaid
 pub mod ReadWritten
 pub mod RunCalls
 pub mod TextCalls

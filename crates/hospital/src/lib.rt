@@ -1,4 +1,5 @@
 // What a C program calls (include/posology.h): document 01, "The hospital side calls reading and writing from a C program".
+mod laying;
 mod reading;
 mod running;
 mod writing;

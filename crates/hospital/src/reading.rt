@@ -1,5 +1,6 @@
 // One posology text into the lent area.
-use document::table::Answer;
+use crate::laying;
+use building::WORDS;
 ghost use mathlib.Core.Path.{_≡_};
 ghost use lib.ListN.{length};
 ghost use Rattle.document.specs.Answer.{bufferAfter};
@@ -22,18 +23,13 @@ pub extern "C" fn posology_read(
         *place = area::AREA as u64;
         return 19;
     }
-    let r = posology::read(text, purpose, strings);
-    let answer = r.answer;
-    match answer {
-        Answer::Taken => {
-            let t = r.table;
-            area::lay(t, table);
-            *place = text.len() as u64;
-            0
-        }
-        Answer::Refused { number, place: at } => {
-            *place = at as u64;
-            number as u64
-        }
+    let mut rows = [0u64; WORDS];
+    let h = posology::read_words(text, purpose, strings, &mut rows);
+    if h.refused {
+        *place = h.place as u64;
+        return h.number as u64;
     }
+    laying::lay_read(h, &mut rows, table);
+    *place = text.len() as u64;
+    0
 }

@@ -1,4 +1,6 @@
 // The first posology of a run into the lent area.
+use crate::laying;
+use building::WORDS;
 use document::table::NextAnswer;
 ghost use mathlib.Core.Path.{_≡_};
 ghost use lib.ListN.{length};
@@ -24,12 +26,12 @@ pub extern "C" fn posology_next(
         *place = area::AREA as u64;
         return 19;
     }
-    let r = posology::read_next(run, purpose, strings);
-    let answer = r.answer;
+    let mut rows = [0u64; WORDS];
+    let w = posology::next_words(run, purpose, strings, &mut rows);
+    let answer = w.answer;
     match answer {
         NextAnswer::Taken { end } => {
-            let t = r.table;
-            area::lay(t, table);
+            laying::lay_read(w.head, &mut rows, table);
             *place = end as u64;
             0
         }

@@ -1,19 +1,10 @@
 // The table of the lent area as its plain text.
 use document::table::Writing;
+use document::uses::is_use;
 ghost use mathlib.Core.Path.{_≡_};
 ghost use lib.ListN.{length};
-ghost use Rattle.document.specs.Valid.{isUse};
 ghost use Rattle.document.specs.Write.{bufferAfter};
 ghost use Rattle.hospital.specs.Calls.{calledWrite, writeNumber, writePlace};
-
-fn is_use(purpose: u64) -> bool
-    ensures { λ r. ⌜ r ≡ isUse purpose ⌝ }
-{
-    if purpose == 1 {
-        return true;
-    }
-    purpose == 3
-}
 
 #[no_mangle]
 pub extern "C" fn posology_write(

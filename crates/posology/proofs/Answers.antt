@@ -15,25 +15,40 @@ use Rattle.walk.specs.declared.End.{End as Ended}
 use Rattle.walk.specs.declared.End.the-variants as E
 use Rattle.moving.specs.Read.{treeOf}
 use Rattle.spelling.proofs.Objects.{one-is-first}
-use Rattle.document.specs.Answer.{Reads, Read, taken, refused, visited, readWalked, afterWalk, read, reading, bufferAfter, laid, textAtMost}
+use Rattle.document.specs.Answer.{Read, taken, refused, visited, readWalked, afterWalk, read, reading, bufferAfter, textAtMost}
 use Rattle.document.specs.Posology.{Posology}
 use Rattle.document.specs.Schema.{aPosology}
-use Rattle.document.specs.Table.{tableOf, emptyTable}
+use Rattle.document.specs.Table.{emptyTable}
 use Rattle.document.specs.Valid.{isUse, roomOf, valid, strings}
 use Rattle.document.specs.Visit.{Outcome, done, members, entriesOf, visit}
 use Rattle.document.specs.declared.table.Answer.the-variants as A
-use Rattle.document.specs.declared.table.Reading.{Reading}
 use Rattle.document.specs.declared.table.Table.{Table}
 use Rattle.document.proofs.Accepts.{taken-means}
 use Rattle.visits.specs.Visiting.{leftOf}
-use Rattle.visits.specs.Heads.{Holds, HeadDone, HeadReads, ReadsHead}
-use Rattle.posology.specs.Reader.{Walked as WalkedText}
-use Rattle.visits.specs.declared.head.HeadRead.{HeadRead}
+use Rattle.heads.specs.Heads.{HeadDone, HeadReads, ReadsHead, RefusedAt}
+use Rattle.posology.specs.Reader.{Walked as WalkedText, readingOf, ReadsWords}
+use Rattle.heads.specs.declared.head.HeadRead.{HeadRead}
+use Rattle.building.specs.Built.{built, stringsLaid}
+use Rattle.building.proofs.Made.{table-made}
+use Rattle.building.proofs.Lays.{strings-laid}
 use Rattle.posology.proofs.Standing.{Standing, visit-is}
 
 -- A place of the text, counted from its start.
 pub place-back : (text : List ℕ) (p : ℕ) → p ≤ length text → placeIn text (drop p text) ≡ p
 place-back text p h = let left = length-drop p text in omega arith
+
+-- The reading that a head and its words make, by whether it is refused.
+module _ (h : HeadRead) (ws : List ℕ) where
+  pub made-refused : h .refused ≡ true → readingOf h ws ≡ record { answer = A.Refused (h .number) (h .place); table = emptyTable }
+  unfolding readingOf
+  made-refused e = rw e
+
+  pub made-taken : h .refused ≡ false → readingOf h ws ≡ record { answer = A.Taken; table = built h ws }
+  unfolding readingOf
+  made-taken e = rw e
+
+  refused-made : {n p : ℕ} → RefusedAt h n p → readingOf h ws ≡ reading (refused n p)
+  refused-made r = made-refused (r .refused) ∙ rw (r .number, r .place)
 
 module _ (purpose : ℕ) (text before : List ℕ) (brace : ℕ) (s : Standing text brace) (h : HeadRead) (words : List ℕ) where
   abbrev room : ℕ
@@ -54,13 +69,10 @@ module _ (purpose : ℕ) (text before : List ℕ) (brace : ℕ) (s : Standing te
         ap (λ (o : Outcome Posology). visited text o) (visit-is purpose room text brace s ∙ r .outcome)
         ∙ ap (λ (n : ℕ). refused (h .number) n) (place-back text (h .place) (r .inside))
 
-    pub refused-reading : h .refused ≡ true → {r : Reading} → r ≡ record { answer = A.Refused (h .number) (h .place); table = emptyTable } → (r ≡ reading (readWalked purpose room text)) × (before ≡ bufferAfter (readWalked purpose room text) before)
-    refused-reading e f = (f ∙ ap (λ (x : Read). reading x) (sym (walked-refused e)), ap (λ (x : Read). bufferAfter x before) (sym (walked-refused e)))
+    pub refused-reading : h .refused ≡ true → (readingOf h words ≡ reading (readWalked purpose room text)) × (before ≡ bufferAfter (readWalked purpose room text) before)
+    refused-reading e = (made-refused h words e ∙ ap (λ (x : Read). reading x) (sym (walked-refused e)), ap (λ (x : Read). bufferAfter x before) (sym (walked-refused e)))
 
     module _ (e : h .refused ≡ false) where
-      pub few : h .used .records ≤ 64
-      few = reads .read e .holds .few
-
       abbrev d : HeadDone text room all h words
       d = reads .read e
 
@@ -77,15 +89,12 @@ module _ (purpose : ℕ) (text before : List ℕ) (brace : ℕ) (s : Standing te
       fits = omega (arith, d .fits, d .holds .taken)
 
       -- The reading and the buffer of an acceptance.
-      pub taken-reading : {t : Table} → ((x : List ℕ) (u : ℕ) (p : Posology) → Holds x p h words → valid u p ≡ true → length (strings p) ≤ 2048 → t ≡ tableOf p)
-          → _≡_ {A = Reading} (record { answer = A.Taken; table = t }) (reading (readWalked purpose room text))
-      taken-reading t =
-          ap (λ (x : Table). record { answer = A.Taken; table = x }) (t text purpose (d .value) (d .holds) walked-valid (omega (arith, fits)))
-          ∙ ap (λ (r : Read). reading r) (sym walked-taken)
+      pub taken-reading : readingOf h words ≡ reading (readWalked purpose room text)
+      taken-reading =
+          made-taken h words e ∙ ap (λ (x : Table). record { answer = A.Taken; table = x }) (table-made text purpose (d .value) h words (d .holds) walked-valid) ∙ ap (λ (r : Read). reading r) (sym walked-taken)
 
-      pub taken-buffer : {after : List ℕ} → ((p : Posology) → Holds text p h words → length (strings p) ≤ length before → after ≡ laid (strings p) before)
-          → after ≡ bufferAfter (readWalked purpose room text) before
-      taken-buffer l = l (d .value) (d .holds) (omega (arith, fits)) ∙ ap (λ (r : Read). bufferAfter r before) (sym walked-taken)
+      pub taken-buffer : {after : List ℕ} → after ≡ stringsLaid text h words before → after ≡ bufferAfter (readWalked purpose room text) before
+      taken-buffer e = e ∙ strings-laid text (d .value) h words (d .holds) before (omega (arith, fits)) ∙ ap (λ (r : Read). bufferAfter r before) (sym walked-taken)
 
 -- "Order: 17; 1; then the whole text for 2 and 3"
 module _ (purpose room : ℕ) (text : List ℕ) where
@@ -109,12 +118,13 @@ module _ (purpose room : ℕ) (text : List ℕ) where
 
 -- The promise of reading, by each answer.
 module _ (purpose : ℕ) (text before : List ℕ) where
-  pub reads-refused : {n p : ℕ} {r : Reading} → read purpose (roomOf (length before)) text ≡ refused n p → r ≡ record { answer = A.Refused n p; table = emptyTable } → Reads purpose text before r before
-  reads-refused e f = record { result = f ∙ ap (λ (x : Read). reading x) (sym e); left = ap (λ (x : Read). bufferAfter x before) (sym e) }
+  module _ {h : HeadRead} {ws : List ℕ} where
+    pub reads-refused : {n p : ℕ} → read purpose (roomOf (length before)) text ≡ refused n p → RefusedAt h n p → ReadsWords purpose text before h ws before
+    reads-refused e f = record { result = refused-made h ws f ∙ ap (λ (x : Read). reading x) (sym e); left = ap (λ (x : Read). bufferAfter x before) (sym e) }
 
-  pub reads-walked : {r : Reading} {after : List ℕ} → read purpose (roomOf (length before)) text ≡ readWalked purpose (roomOf (length before)) text
-      → r ≡ reading (readWalked purpose (roomOf (length before)) text) → after ≡ bufferAfter (readWalked purpose (roomOf (length before)) text) before → Reads purpose text before r after
-  reads-walked e f g = record { result = f ∙ ap (λ (x : Read). reading x) (sym e); left = g ∙ ap (λ (x : Read). bufferAfter x before) (sym e) }
+    pub reads-walked : {after : List ℕ} → read purpose (roomOf (length before)) text ≡ readWalked purpose (roomOf (length before)) text
+        → readingOf h ws ≡ reading (readWalked purpose (roomOf (length before)) text) → after ≡ bufferAfter (readWalked purpose (roomOf (length before)) text) before → ReadsWords purpose text before h ws after
+    reads-walked e f g = record { result = f ∙ ap (λ (x : Read). reading x) (sym e); left = g ∙ ap (λ (x : Read). bufferAfter x before) (sym e) }
 
   -- What the walk's answer tells.
   module _ (known : isUse purpose ≡ true) (short : length text ≤ textAtMost) (w : Ended) (tells : Tells text (oneObject text) w) where

@@ -11,12 +11,19 @@ use borrow.Author.Tests.{ltb-true, ltb-false, leb-true, leb-false, le-leb, lt-le
 use Rattle.json.specs.Byte.{blanked}
 use Rattle.json.specs.Tree.{placeIn, Moves}
 use Rattle.json.specs.Walk.{Frame, Mode, top, Next, wrong, deep, ended, go, onto, step, walk, Walked, end, refused2, refused3, firstObject}
-use Rattle.document.specs.Answer.{textAtMost, Read, taken, refused, reading, bufferAfter, ReadNext, blankTo, refusedAt, upTo, notEnded, readWalked, nextWalked, readNext, nextReading, nextBufferAfter, ReadsNext}
+use Rattle.document.specs.Answer.{textAtMost, Read, taken, refused, reading, bufferAfter, ReadNext, blankTo, refusedAt, upTo, notEnded, readWalked, nextWalked, readNext, nextReading, nextBufferAfter}
 use Rattle.document.specs.Valid.{isUse, roomOf}
 use Rattle.document.specs.declared.table.Reading.{Reading}
 use Rattle.document.specs.declared.table.Answer.the-variants as A
-use Rattle.document.specs.declared.table.NextReading.{NextReading}
+use Rattle.document.specs.declared.table.NextAnswer.{NextAnswer}
 use Rattle.document.specs.declared.table.NextAnswer.the-variants as N
+use Rattle.document.specs.declared.table.Table.{Table}
+use Rattle.heads.specs.declared.head.HeadRead.{HeadRead}
+use Rattle.building.specs.Built.{built}
+use Rattle.posology.specs.Reader.{readingOf}
+use Rattle.posology.specs.Next.{tableFor, nextReadingOf, ReadsNextWords}
+use Rattle.posology.specs.declared.next.NextWords.{NextWords}
+use Rattle.posology.proofs.Answers.{made-refused, made-taken}
 
 -- ---- the walk of some bytes, and of these with others behind them
 -- What stays open at the end goes on in the bytes behind; all else is settled.
@@ -172,9 +179,19 @@ module _ (purpose room : ℕ) (run : List ℕ) where
       next-begun h = rw (← is, not-false used u, sym (v .lands) ∙ drop-cons run i 0 h)
 
 -- ---- the answer
-pub reads-next : (purpose : ℕ) (run before : List ℕ) (next : ReadNext) {r : NextReading} {after : List ℕ}
-    → readNext purpose (roomOf (length before)) run ≡ next → r ≡ nextReading next → after ≡ nextBufferAfter next before → ReadsNext purpose run before r after
+pub reads-next : (purpose : ℕ) (run before : List ℕ) (next : ReadNext) {w : NextWords} {ws after : List ℕ}
+    → readNext purpose (roomOf (length before)) run ≡ next → nextReadingOf w ws ≡ nextReading next → after ≡ nextBufferAfter next before → ReadsNextWords purpose run before w ws after
 reads-next purpose run before next e f g = record { result = rw e f; left = rw e g }
+
+-- The reading that an answer makes.
+module _ (w : NextWords) (ws : List ℕ) where
+  pub of-answer : {a : NextAnswer} {t : Table} → w .answer ≡ a → t ≡ tableFor a (built (w .head) ws) → record { answer = w .answer; table = t } ≡ nextReadingOf w ws
+  unfolding nextReadingOf
+  of-answer e f = ap (λ (t : Table). record { answer = w .answer; table = t }) (f ∙ ap (λ (a : NextAnswer). tableFor a (built (w .head) ws)) (sym e))
+
+  pub blank-made : {n : ℕ} → w .answer ≡ N.Blank n → nextReadingOf w ws ≡ nextReading (blankTo n)
+  unfolding nextReadingOf
+  blank-made e = rw e
 
 pub not-ended-leaves : (n : ℕ) (run : List ℕ) (place : ℕ) (before : List ℕ) → before ≡ nextBufferAfter (notEnded n run place) before
 not-ended-leaves n run place before = by (leb (length run) textAtMost || ltb place textAtMost)
@@ -185,18 +202,18 @@ not-ended-leaves n run place before = by (leb (length run) textAtMost || ltb pla
 
 -- The answer to the text up to e, from the answer to the text.
 module _ (e : ℕ) where
-  pub next-taken : (w : Read) (r : Reading) → r ≡ reading w → r .answer ≡ A.Taken → record { answer = N.Taken e; table = r .table } ≡ nextReading (upTo e w)
-  next-taken (taken p) r h g = rw h
-  next-taken (refused n place) r h g = let z : _≡_ {A = ℕ} 0 1 = cc (ap (λ (x : Reading). x .answer) h, g) in absurd (omega arith)
+  pub next-taken : (w : Read) (h : HeadRead) (ws : List ℕ) → readingOf h ws ≡ reading w → h .refused ≡ false → nextReadingOf (record { answer = N.Taken e; head = h }) ws ≡ nextReading (upTo e w)
+  unfolding nextReadingOf
+  next-taken (taken p) h ws r g = ap (λ (x : Reading). record { answer = N.Taken e; table = x .table }) (sym (made-taken h ws g) ∙ r)
+  next-taken (refused n place) h ws r g = let z : _≡_ {A = ℕ} 0 1 = cc (ap (λ (x : Reading). x .answer) (sym (made-taken h ws g) ∙ r)) in absurd (omega arith)
 
-  pub next-refused : (w : Read) (r : Reading) (n place : ℕ) → r ≡ reading w → r .answer ≡ A.Refused n place
-      → record { answer = N.Refused n place; table = r .table } ≡ nextReading (upTo e w)
-  next-refused (taken p) r n place h g = let z : _≡_ {A = ℕ} 0 1 = cc (ap (λ (x : Reading). x .answer) h, g) in absurd (omega arith)
-  next-refused (refused m q) r n place h g =
-      let f = sym g ∙ ap (λ (x : Reading). x .answer) h in
-      let x : n ≡ m = cc in
-      let y : place ≡ q = cc in
-      rw (x, y, h)
+  pub next-refused : (w : Read) (h : HeadRead) (ws : List ℕ) → readingOf h ws ≡ reading w → h .refused ≡ true → nextReading (refusedAt (h .number) (h .place)) ≡ nextReading (upTo e w)
+  next-refused (taken p) h ws r g = let z : _≡_ {A = ℕ} 0 1 = cc (ap (λ (x : Reading). x .answer) (sym (made-refused h ws g) ∙ r)) in absurd (omega arith)
+  next-refused (refused m q) h ws r g =
+      let f = ap (λ (x : Reading). x .answer) (sym (made-refused h ws g) ∙ r) in
+      let x : h .number ≡ m = cc in
+      let y : h .place ≡ q = cc in
+      rw (x, y)
 
   pub next-leaves : (w : Read) (before : List ℕ) → bufferAfter w before ≡ nextBufferAfter (upTo e w) before
   next-leaves (taken p) before = refl

@@ -1,3 +1,2 @@
 pub mod Reader
-pub mod Handing
-pub mod Built
+pub mod Next

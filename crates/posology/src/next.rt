@@ -1,27 +1,38 @@
 // Reading the first posology of a run (document 01, "Answers by number", the last paragraph).
 use crate::reader;
-use document::table::Answer;
+use building::WORDS;
 use document::table::NextAnswer;
 use document::table::NextReading;
-use document::table::Table;
+use document::uses::is_use;
+use heads::head;
+use heads::head::HeadRead;
 use walk::End;
 ghost use mathlib.Core.Path.{_≡_};
+ghost use mathlib.Core.List.{List};
+ghost use Prim.Native.Nat.{ℕ};
 ghost use lib.ListN.{length, take};
 ghost use Rattle.document.specs.Answer.{ReadsNext, refusedAt, nextReading, nextBufferAfter, notEnded, upTo, readWalked, textAtMost};
 ghost use Rattle.document.specs.Valid.{roomOf};
 ghost use Rattle.posology.specs.Reader.{Walked};
+ghost use Rattle.posology.specs.Next.{nextReadingOf, ReadsNextWords};
 
 const LONGEST: usize = 32768;
 
-fn refused(number: u8, place: usize) -> NextReading
-    ensures { λ r. ⌜ r ≡ nextReading (refusedAt number place) ⌝ }
+// The answer, and where a posology is taken its head and the words of its records.
+pub struct NextWords {
+    pub answer: NextAnswer,
+    pub head: HeadRead,
+}
+
+fn refused(number: u8, place: usize) -> NextWords
+    ensures { λ r. ⌜ ((ws : List ℕ) → nextReadingOf r ws ≡ nextReading (refusedAt number place)) ⌝ }
 {
-    NextReading {
+    NextWords {
         answer: NextAnswer::Refused {
             number: number,
             place: place,
         },
-        table: reader::empty_table(),
+        head: head::refused(number, place),
     }
 }
 
@@ -36,8 +47,8 @@ fn begun(run: &[u8]) -> &[u8]
 }
 
 // No text ends in the first 32,768 bytes, and they are walked up to p.
-fn not_ended(run: &[u8], p: usize) -> NextReading
-    ensures { λ r. ⌜ r ≡ nextReading (notEnded 2 (now (run .entry)) p) ⌝ }
+fn not_ended(run: &[u8], p: usize) -> NextWords
+    ensures { λ r. ⌜ ((ws : List ℕ) → nextReadingOf r ws ≡ nextReading (notEnded 2 (now (run .entry)) p)) ⌝ }
 {
     if p < LONGEST {
         return refused(2, p);
@@ -49,44 +60,74 @@ fn not_ended(run: &[u8], p: usize) -> NextReading
 }
 
 // The text that ends at e: reading it looks no further.
-fn taken(run: &[u8], e: usize, purpose: u64, strings: &mut [u8]) -> NextReading
+fn taken(
+    run: &[u8],
+    e: usize,
+    purpose: u64,
+    strings: &mut [u8],
+    words: &mut [u64; WORDS],
+) -> NextWords
     requires { ⌜ Walked (now run) ⌝ }
-    ensures { λ r. ⌜ r ≡ nextReading (upTo e (readWalked purpose (roomOf (length (now (strings .entry)))) (now (run .entry)))) ⌝ }
+    ensures { λ r. ⌜ nextReadingOf r (now (words .exit)) ≡ nextReading (upTo e (readWalked purpose (roomOf (length (now (strings .entry)))) (now (run .entry)))) ⌝ }
     ensures { λ _. ⌜ now (strings .exit) ≡ nextBufferAfter (upTo e (readWalked purpose (roomOf (length (now (strings .entry)))) (now (run .entry)))) (now (strings .entry)) ⌝ }
 {
-    let r = reader::read_walked(run, purpose, strings);
-    let table = r.table;
-    let answer = r.answer;
-    match answer {
-        Answer::Taken => NextReading {
-            answer: NextAnswer::Taken { end: e },
-            table: table,
-        },
-        Answer::Refused { number, place } => NextReading {
-            answer: NextAnswer::Refused {
-                number: number,
-                place: place,
-            },
-            table: table,
-        },
+    let h = reader::walked_words(run, purpose, strings, words);
+    if h.refused {
+        return refused(h.number, h.place);
+    }
+    NextWords {
+        answer: NextAnswer::Taken { end: e },
+        head: h,
+    }
+}
+
+// The first posology of a run read as far as its head and the words of its records.
+pub fn next_words(
+    run: &[u8],
+    purpose: u64,
+    strings: &mut [u8],
+    words: &mut [u64; WORDS],
+) -> NextWords
+    ensures { λ r. ⌜ ReadsNextWords purpose (now (run .entry)) (now (strings .entry)) r (now (words .exit)) (now (strings .exit)) ⌝ }
+{
+    if !is_use(purpose) {
+        return refused(17, 0);
+    }
+    if run.len() <= scan::byte::blanks_end(run, 0) {
+        return NextWords {
+            answer: NextAnswer::Blank { length: run.len() },
+            head: head::refused(0, 0),
+        };
+    }
+    match walk::first_object(begun(run)) {
+        End::At(e) => taken(run, e, purpose, strings, words),
+        End::Bad(p) => not_ended(run, p),
+        End::Deep(p) => refused(3, p),
+    }
+}
+
+fn reading_of(w: NextWords, words: &[u64; WORDS]) -> NextReading
+    ensures { λ r. ⌜ r ≡ nextReadingOf w (now (words .entry)) ⌝ }
+{
+    let answer = w.answer;
+    let table = match answer {
+        NextAnswer::Taken { end: _ } => building::table_of(w.head, words),
+        NextAnswer::Blank { length: _ } => reader::empty_table(),
+        NextAnswer::Refused {
+            number: _,
+            place: _,
+        } => reader::empty_table(),
+    };
+    NextReading {
+        answer: answer,
+        table: table,
     }
 }
 
 pub fn read_next(run: &[u8], purpose: u64, strings: &mut [u8]) -> NextReading
     ensures { λ r. ⌜ ReadsNext purpose (now (run .entry)) (now (strings .entry)) r (now (strings .exit)) ⌝ }
 {
-    if !reader::is_use(purpose) {
-        return refused(17, 0);
-    }
-    if run.len() <= scan::byte::blanks_end(run, 0) {
-        return NextReading {
-            answer: NextAnswer::Blank { length: run.len() },
-            table: reader::empty_table(),
-        };
-    }
-    match walk::first_object(begun(run)) {
-        End::At(e) => taken(run, e, purpose, strings),
-        End::Bad(p) => not_ended(run, p),
-        End::Deep(p) => refused(3, p),
-    }
+    let mut words = [0u64; WORDS];
+    let w = next_words(run, purpose, strings, &mut words);
+    reading_of(w, &words)
 }

@@ -1,5 +1,5 @@
 // Reading one posology text (document 01, "What the part does" and "Answers by number").
-use crate::build;
+use building::WORDS;
 use document::table::Answer;
 use document::table::Date;
 use document::table::Head;
@@ -8,15 +8,17 @@ use document::table::Reading;
 use document::table::Record;
 use document::table::Table;
 use document::table::Text;
-use visits::head;
-use visits::rows::RECORDS;
+use document::uses::is_use;
+use heads::head;
+use heads::head::HeadRead;
+use opening::rows::RECORDS;
 use walk::End;
 ghost use mathlib.Core.Path.{_≡_};
 ghost use lib.ListN.{length};
 ghost use Rattle.document.specs.Answer.{Reads, reading, readWalked, bufferAfter};
 ghost use Rattle.document.specs.Table.{emptyTable, noText};
-ghost use Rattle.document.specs.Valid.{isUse, roomOf};
-ghost use Rattle.posology.specs.Reader.{Walked};
+ghost use Rattle.document.specs.Valid.{roomOf};
+ghost use Rattle.posology.specs.Reader.{Walked, readingOf, ReadsWords};
 
 const LONGEST: usize = 32768;
 
@@ -51,18 +53,6 @@ pub(crate) fn empty_table() -> Table
     }
 }
 
-pub(crate) fn refused(number: u8, place: usize) -> Reading
-    ensures { λ r. ⌜ r ≡ record { answer = Answer.Refused number place; table = emptyTable } ⌝ }
-{
-    Reading {
-        answer: Answer::Refused {
-            number: number,
-            place: place,
-        },
-        table: empty_table(),
-    }
-}
-
 // "Text room is the buffer's length or 2,048 bytes, the smaller."
 fn room_of(strings: &[u8]) -> usize
     ensures { λ r. ⌜ r ≡ roomOf (length (now (strings .entry))) ⌝ }
@@ -73,46 +63,70 @@ fn room_of(strings: &[u8]) -> usize
     ROOM
 }
 
-// A text that was walked.
-pub(crate) fn read_walked(text: &[u8], purpose: u64, strings: &mut [u8]) -> Reading
+// A text that was walked. The strings are laid after acceptance alone.
+pub(crate) fn walked_words(
+    text: &[u8],
+    purpose: u64,
+    strings: &mut [u8],
+    words: &mut [u64; WORDS],
+) -> HeadRead
     requires { ⌜ Walked (now text) ⌝ }
-    ensures { λ r. ⌜ r ≡ reading (readWalked purpose (roomOf (length (now (strings .entry)))) (now (text .entry))) ⌝ }
+    ensures { λ r. ⌜ readingOf r (now (words .exit)) ≡ reading (readWalked purpose (roomOf (length (now (strings .entry)))) (now (text .entry))) ⌝ }
     ensures { λ _. ⌜ now (strings .exit) ≡ bufferAfter (readWalked purpose (roomOf (length (now (strings .entry)))) (now (text .entry))) (now (strings .entry)) ⌝ }
 {
-    let mut words = [0u64; 384];
     let brace = scan::byte::blanks_end(text, 0);
-    let h = head::read_head(text, brace, purpose, room_of(strings), &mut words);
+    let h = head::read_head(text, brace, purpose, room_of(strings), words);
     if h.refused {
-        return refused(h.number, h.place);
+        return h;
     }
-    build::lay_strings(text, h, &words, strings);
-    Reading {
-        answer: Answer::Taken,
-        table: build::table_of(h, &words),
+    building::lay_strings(text, h, words, strings);
+    h
+}
+
+// A text read as far as its head and the words of its records: of these a table is made, or the hospital's area.
+pub fn read_words(
+    text: &[u8],
+    purpose: u64,
+    strings: &mut [u8],
+    words: &mut [u64; WORDS],
+) -> HeadRead
+    ensures { λ r. ⌜ ReadsWords purpose (now (text .entry)) (now (strings .entry)) r (now (words .exit)) (now (strings .exit)) ⌝ }
+{
+    if !is_use(purpose) {
+        return head::refused(17, 0);
+    }
+    if LONGEST < text.len() {
+        return head::refused(1, LONGEST);
+    }
+    match walk::one_object(text) {
+        End::At(_) => walked_words(text, purpose, strings, words),
+        End::Bad(p) => head::refused(2, p),
+        End::Deep(p) => head::refused(3, p),
     }
 }
 
-pub(crate) fn is_use(purpose: u64) -> bool
-    ensures { λ r. ⌜ r ≡ isUse purpose ⌝ }
+fn reading_of(r: HeadRead, words: &[u64; WORDS]) -> Reading
+    ensures { λ made. ⌜ made ≡ readingOf r (now (words .entry)) ⌝ }
 {
-    if purpose == 1 {
-        return true;
+    if r.refused {
+        return Reading {
+            answer: Answer::Refused {
+                number: r.number,
+                place: r.place,
+            },
+            table: empty_table(),
+        };
     }
-    purpose == 3
+    Reading {
+        answer: Answer::Taken,
+        table: building::table_of(r, words),
+    }
 }
 
 pub fn read(text: &[u8], purpose: u64, strings: &mut [u8]) -> Reading
     ensures { λ r. ⌜ Reads purpose (now (text .entry)) (now (strings .entry)) r (now (strings .exit)) ⌝ }
 {
-    if !is_use(purpose) {
-        return refused(17, 0);
-    }
-    if LONGEST < text.len() {
-        return refused(1, LONGEST);
-    }
-    match walk::one_object(text) {
-        End::At(_) => read_walked(text, purpose, strings),
-        End::Bad(p) => refused(2, p),
-        End::Deep(p) => refused(3, p),
-    }
+    let mut words = [0u64; WORDS];
+    let h = read_words(text, purpose, strings, &mut words);
+    reading_of(h, &words)
 }

@@ -2,15 +2,16 @@
 use Prim.Native.Nat.{ℕ, suc, _+_, _-_, _<_, _≤_}
 use mathlib.Core.Path.{_≡_, refl, sym, ap, _∙_}
 use mathlib.Core.List.{List, [], _∷_, _++_, append-assoc}
-use lib.ListN.{length, getD, take, drop, set, length-set, length-append, length-take, length-drop}
+use lib.ListN.{length, getD, take, set, length-set, length-append, length-take, length-drop}
 use lib.Seq.{sets, slice, slice-empty, slice-cons, take-suc, drop-append-le, length-take-le}
 use native.Mathlib.Nat.{add-zero}
 use native.Mathlib.Numerals.{add-one}
 use native.Mathlib.Omega.{arith}
 use Rattle.json.specs.String.{lead}
 use Rattle.json.specs.declared.string.Lead.the-variants.{Ascii}
-use Rattle.strings.specs.Strings.{plainFrom, Run}
-use Rattle.strings.proofs.Ascii.{ascii-from}
+use Rattle.characters.specs.Characters.{plainFrom}
+use Rattle.strings.specs.Strings.{Run}
+use Rattle.characters.proofs.Ascii.{ascii-from}
 
 pub sets-append : (l : List ℕ) (i : ℕ) (xs ys : List ℕ) → sets l i (xs ++ ys) ≡ sets (sets l i xs) (i + length xs) ys
 sets-append l i [] ys = rw (add-zero i)

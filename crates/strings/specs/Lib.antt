@@ -1,2 +1,1 @@
 pub mod Strings
-mod Examples

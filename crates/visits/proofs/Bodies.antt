@@ -15,10 +15,12 @@ use Rattle.document.specs.Visit.{Left, recordLess, Outcome, done, refuse, bind,
 use Rattle.fields.specs.At.{At}
 use Rattle.fields.specs.Names.{rowNames, Tells}
 use Rattle.fields.specs.Fields.{Refuses, Reads, Child, FindsObject, Listing, FindsList}
-use Rattle.visits.specs.Visiting.{leftOf, typesUnder, Opens, OpensAs, OpensUnder}
-use Rattle.visits.specs.Kept.{more}
-use Rattle.visits.specs.declared.rows.Used.{Used}
-use Rattle.visits.specs.declared.opened.Opened.{Opened}
+use Rattle.opening.specs.Under.{typesUnder}
+use Rattle.opening.specs.Opens.{Opens, OpensAs}
+use Rattle.visits.specs.Visiting.{leftOf, OpensUnder}
+use Rattle.opening.specs.Records.{more}
+use Rattle.opening.specs.declared.rows.Used.{Used}
+use Rattle.opening.specs.declared.opened.Opened.{Opened}
 use Rattle.fields.specs.declared.field.Found.{Found as FoundAt}
 use Rattle.fields.specs.declared.field.Found.the-variants as A
 use Rattle.fields.specs.declared.field.Field.{Field}

@@ -8,7 +8,6 @@ use mathlib.Core.Option.{Option, some, Option·getD}
 use native.Mathlib.Omega.{arith}
 use lib.ListN.{length, drop, length-drop, length-append}
 use lib.Seq.{sets}
-use borrow.Author.Tests.{ne-eqb}
 use Rattle.json.specs.Tree.{Place, Moves, Tree, list, Elements, noElement, element}
 use Rattle.moving.specs.Moving.{firstIn, nextAfter, atEnd}
 use Rattle.moving.specs.Count.{count, elementsIn}
@@ -20,19 +19,20 @@ use Rattle.document.specs.Valid.{timedRecords, detailStrings}
 use Rattle.fields.specs.At.{At}
 use Rattle.document.specs.Bytes.{bytes}
 use Rattle.document.specs.Lookup.{Entry, Found, find, unknown}
-use Rattle.document.specs.Schema.{Family, Shape, aNumber, anObject, aList, aString, text as asText, aTimed, NumberShape, decimal, fourDecimals, Four, underCyclic, Of, Rows, need, may, aDetail, aSequenceObject, rowsOf, dailyRows, freeTextRows, singleRows, cyclicRows, sequenceRows, posologySequenceRows, pauseRows}
+use Rattle.document.specs.Schema.{Family, Shape, aNumber, anObject, aList, aString, text as asText, aTimed, NumberShape, decimal, fourDecimals, Four, Of, Rows, need, may, aDetail, aSequenceObject, rowsOf, dailyRows, freeTextRows, singleRows, cyclicRows, sequenceRows, posologySequenceRows, pauseRows}
 use Rattle.document.specs.Visit.{Left, roomLess, Outcome, done, refuse, bind, needed, optional, fields, body, decimals, Value, valueOf, valuesOf}
 use Rattle.document.specs.Words.{row, words}
 use Rattle.fields.specs.Names.{rowNames, nameAt, names as allNames, Tells, Slot}
 use Rattle.fields.specs.Fields.{Refuses, Reads, ReadsAt, ReadsNeeded, Given, ReadsGiven, ReadsOptional, Listing, FindsList, ListNeeded, Texted, ReadsText, Child, FindsObject, ObjectNeeded}
 use Rattle.visits.specs.Visiting.{leftOf, RowsIn, Did, VisitedIn, VisitsNeeded, VisitsBodyIn, TimedRows, DetailRows, DetailAt, Ready}
-use Rattle.visits.specs.Kept.{more, Grown}
+use Rattle.opening.specs.Records.{more}
+use Rattle.visits.specs.Kept.{Grown}
 use Rattle.visits.specs.Room.{KeptIn}
 use Rattle.visits.specs.Fours.{FourIn}
-use Rattle.visits.specs.declared.opened.Opened.{Opened}
-use Rattle.visits.specs.declared.rows.Used.{Used}
-use Rattle.visits.specs.declared.rows.Visit.{Visit}
-use Rattle.visits.specs.declared.rows.Visit.the-variants.{Done, Refused}
+use Rattle.opening.specs.declared.opened.Opened.{Opened}
+use Rattle.opening.specs.declared.rows.Used.{Used}
+use Rattle.opening.specs.declared.rows.Visit.{Visit}
+use Rattle.opening.specs.declared.rows.Visit.the-variants.{Done, Refused}
 use Rattle.fields.specs.declared.names.Unknown.{Unknown}
 use Rattle.fields.specs.declared.names.Unknown.the-variants.{None}
 use Rattle.fields.specs.declared.field.Field.{Field}
@@ -44,7 +44,7 @@ use Rattle.fields.specs.declared.field.Worded.{Worded}
 use Rattle.fields.specs.declared.field.Worded.the-variants as W
 use Rattle.visits.proofs.Rowed.{above-did, count-below, kept-refused, kept-done, visited-done, visited-refused}
 use Rattle.visits.proofs.Chunks.{timed-length}
-use Rattle.visits.proofs.Strings.{joined-is}
+use Rattle.document.proofs.Untables.{joined-append}
 use Rattle.visits.proofs.Listing.{Standing, there, standing-first, standing-here}
 
 -- Fields in turn.
@@ -262,9 +262,6 @@ module _ {text : List ℕ} {at : ℕ} {p : Place} {es : Elements} (stands : At t
 pub ready-more : {before : List ℕ} {u w : Used} → w ≡ more u → Ready before u → u .records < 64 → Ready before w
 ready-more {before} e r few = subst (λ (x : Used). Ready before x) (sym e) (record { size = r .size; few = omega arith })
 
-pub more-grown : {k : ℕ} {u v w : Used} → w ≡ more u → Grown k w v → u .records < v .records
-more-grown {k} {u} {v} e g = let h = subst (λ (x : Used). Grown k x v) e g in omega (arith, h .some)
-
 module _ {A : Type 0} (text : List ℕ) (room : ℕ) (u : Used) (before : List ℕ) (rowsIn : RowsIn A) (o : Outcome A) (r : Visit) (after : List ℕ) (h : VisitedIn text room u before rowsIn o r after) where
   pub in-did : {v : Used} → r ≡ Done v → Did room u before (rowsIn (v .text)) o v after
   in-did e = subst (λ (x : Visit). VisitedIn text room u before rowsIn o x after) e h
@@ -331,7 +328,7 @@ free-text-did text room u before after o q n size fits inside few e stored =
       value = P.freeText (decoded (drop q text));
       chunk = row (words 0 2 (u .text) n q 0) [];
       outcome = e ∙ ap (λ (k : ℕ). done (P.freeText (decoded (drop q text))) (record { records = 64 - (u .records + 1); room = k })) (omega arith);
-      row = ((q, ap (λ (k : ℕ). row (words 0 2 (u .text) k q 0) []) (sym size), refl), omega (arith, ap length (joined-is (decoded (drop q text)) []), length-append (decoded (drop q text)) []));
+      row = ((q, ap (λ (k : ℕ). row (words 0 2 (u .text) k q 0) []) (sym size), refl), omega (arith, ap length (joined-append (decoded (drop q text)) []), length-append (decoded (drop q text)) []));
       words = stored;
       size = omega arith;
       few = omega arith;
@@ -358,9 +355,6 @@ module _ (text : List ℕ) {room : ℕ} {u v : Used} {before mid after : List �
   cyclic-did unit du per e stored =
       above-did d (P.cyclic unit du (d .value) per) (words (v .records - u .records - 1) 4 unit du per 0) e
       (ap (λ (n : ℕ). row (words n 4 unit du per 0) (d .chunk)) (timed-below u d) ∙ ap (λ (c : List ℕ). row (words (timedRecords (d .value)) 4 unit du per 0) c) (d .row), omega arith) stored
-
-pub under-other : (unit : ℕ) → (unit ≡ 5 → ⊥) → (unit ≡ 6 → ⊥) → underCyclic 1 ≡ underCyclic unit
-under-other unit h k = rw (ne-eqb unit 5 h, ne-eqb unit 6 k)
 
 -- The type of a body, by another name.
 pub of-kind : (room : ℕ) (n : ℕ) {k t : ℕ} (text : List ℕ) (at : ℕ) (o : Opened) (u : Used) (before : List ℕ) (r : Visit) (after : List ℕ)

@@ -10,10 +10,11 @@ use Rattle.document.specs.Visit.{Outcome, done}
 use Rattle.document.specs.Words.{Words, row, rows}
 use Rattle.fields.specs.Fields.{Refuses}
 use Rattle.visits.specs.Visiting.{leftOf, RowsOf, Did, Visited}
-use Rattle.visits.specs.Kept.{more, Grown, Kept}
-use Rattle.visits.specs.declared.rows.Used.{Used}
-use Rattle.visits.specs.declared.rows.Visit.{Visit}
-use Rattle.visits.specs.declared.rows.Visit.the-variants.{Done, Refused}
+use Rattle.opening.specs.Records.{more}
+use Rattle.visits.specs.Kept.{Grown, Kept}
+use Rattle.opening.specs.declared.rows.Used.{Used}
+use Rattle.opening.specs.declared.rows.Visit.{Visit}
+use Rattle.opening.specs.declared.rows.Visit.the-variants.{Done, Refused}
 
 -- Stores at two places may be done in either order.
 set-before : (l : List ℕ) (i j a b : ℕ) → i < j → set (set l j b) i a ≡ set (set l i a) j b
@@ -76,11 +77,6 @@ module _ {A B : Type 0} {room : ℕ} {u v : Used} {before mid after : List ℕ} 
 pub count-below : {B : Type 0} {room : ℕ} {u v : Used} {before mid : List ℕ} {below : RowsOf B} {ob : Outcome B} (d : Did room u before below ob v mid) (n : ℕ)
     → length (d .chunk) ≡ n * 6 → v .records ≡ u .records + n
 count-below d n h = omega (arith, d .size)
-
--- Six stores, one behind the other.
-pub six-stored : (l : List ℕ) (k at n₁ n₂ n₃ n₄ n₅ : ℕ) (w : Words) → at ≡ k → n₁ ≡ suc k → n₂ ≡ suc (suc k) → n₃ ≡ suc (suc (suc k)) → n₄ ≡ suc (suc (suc (suc k))) → n₅ ≡ suc (suc (suc (suc (suc k))))
-    → set (set (set (set (set (set l at (w .tag)) n₁ (w .below)) n₂ (w .a)) n₃ (w .b)) n₄ (w .c)) n₅ (w .d) ≡ sets l k (row w [])
-six-stored l k at n₁ n₂ n₃ n₄ n₅ w e e₁ e₂ e₃ e₄ e₅ = cc
 
 -- What is kept where a visit is refused, and where it is done.
 pub kept-refused : (least : ℕ) {before after : List ℕ} (u : Used) {r : Visit} {n p : ℕ} → r ≡ Refused n p → length after ≡ length before → Kept least before u r after

@@ -21,12 +21,13 @@ use Rattle.document.specs.Words.{row, words}
 use Rattle.fields.specs.At.{At}
 use Rattle.fields.specs.Fields.{Refuses, Listing, FindsObject, ObjectAt}
 use Rattle.fields.specs.Names.{Slot}
-use Rattle.visits.specs.Visiting.{leftOf, RowsIn, Did, VisitedIn, VisitsObjectIn, VisitsNeededIn, VisitsEachIn, DetailRows, ObjectRows, ObjectsRows, DetailAt, ObjectIn, ObjectsIn, Opens}
-use Rattle.visits.specs.Kept.{more}
-use Rattle.visits.specs.declared.rows.Used.{Used}
-use Rattle.visits.specs.declared.rows.Visit.{Visit}
-use Rattle.visits.specs.declared.rows.Visit.the-variants.{Done, Refused}
-use Rattle.visits.specs.declared.opened.Opened.{Opened}
+use Rattle.opening.specs.Opens.{Opens}
+use Rattle.visits.specs.Visiting.{leftOf, RowsIn, Did, VisitedIn, VisitsObjectIn, VisitsNeededIn, VisitsEachIn, DetailRows, ObjectRows, ObjectsRows, DetailAt, ObjectIn, ObjectsIn}
+use Rattle.opening.specs.Records.{more}
+use Rattle.opening.specs.declared.rows.Used.{Used}
+use Rattle.opening.specs.declared.rows.Visit.{Visit}
+use Rattle.opening.specs.declared.rows.Visit.the-variants.{Done, Refused}
+use Rattle.opening.specs.declared.opened.Opened.{Opened}
 use Rattle.fields.specs.declared.field.Found.{Found as FoundAt}
 use Rattle.fields.specs.declared.field.Found.the-variants as A
 use Rattle.visits.proofs.Rowed.{above-did, count-below}
@@ -34,7 +35,7 @@ use Rattle.visits.proofs.Bodies.{refuses-as, list-at}
 use Rattle.visits.proofs.Listing.{standing-first, standing-here, standing-over}
 use Rattle.visits.proofs.Chunks.{timed-length}
 use Rattle.visits.proofs.Detailed.{in-did, in-refused}
-use Rattle.visits.proofs.Strings.{object-strings}
+use Rattle.document.proofs.Untables.{object-append}
 
 -- Six words to a record.
 mutual
@@ -148,7 +149,7 @@ pub objects-join : (text : List ℕ) (at mid end : ℕ) (a : P.SequenceObject) (
 unfolding DetailRows detailStrings
 objects-join text at mid end a as′ c c′ h k = (
   (c, c′, refl, h .0, subst (λ (n : ℕ). ObjectsRows (P.ordered as′) text n c′) (h .1) (k .0)),
-  omega (arith, h .1, k .1, ap length (object-strings a (objectsStrings (P.ordered as′) [])), length-append (objectStrings a []) (objectsStrings (P.ordered as′) [])),
+  omega (arith, h .1, k .1, ap length (object-append a (objectsStrings (P.ordered as′) [])), length-append (objectStrings a []) (objectsStrings (P.ordered as′) [])),
 )
 
 pub no-objects : (text : List ℕ) (at : ℕ) → ObjectsIn text at [] at []

@@ -5,15 +5,11 @@ use mathlib.Core.List.{List}
 use mathlib.Core.Bool.{true, false}
 use lib.ListN.{length}
 use Rattle.document.specs.Date.{among}
-use Rattle.visits.specs.Visiting.{typesUnder}
-use Rattle.visits.specs.declared.rows.Used.{Used}
-use Rattle.visits.specs.declared.rows.Visit.{Visit}
-use Rattle.visits.specs.declared.rows.Visit.the-variants.{Done}
-use Rattle.visits.specs.declared.opened.Opened.{Opened}
-
--- One record more.
-abbrev pub more : Used → Used
-more u = record { records = u .records + 1; text = u .text }
+use Rattle.opening.specs.Under.{typesUnder}
+use Rattle.opening.specs.declared.rows.Used.{Used}
+use Rattle.opening.specs.declared.rows.Visit.{Visit}
+use Rattle.opening.specs.declared.rows.Visit.the-variants.{Done}
+use Rattle.opening.specs.declared.opened.Opened.{Opened}
 
 -- At least so many records are added, and there are never more than 64.
 pub record Grown (least : ℕ) (u v : Used) : Type 0 where

@@ -2,5 +2,4 @@ pub mod Visiting
 pub mod Kept
 pub mod Room
 pub mod Fours
-pub mod Heads
-pub mod HeadRows
+pub mod Detail

@@ -2,27 +2,27 @@
 use Prim.Native.Nat.{ℕ, _+_, _*_, _-_, _<_, _≤_}
 use mathlib.Core.Path.{_≡_}
 use mathlib.Core.List.{List, [], _∷_, _++_}
-use mathlib.Core.Bool.{true, false, cond}
-use lib.ListN.{length, drop, getD}
+use mathlib.Core.Bool.{true, false}
+use lib.ListN.{length, drop}
 use lib.Seq.{sets}
-use lib.Dec.{eqb}
 use Rattle.json.specs.Tree.{Place, object, list, Members, Elements}
 use Rattle.moving.specs.Read.{decoded}
 use Rattle.document.specs.Bytes.{bytes}
 use Rattle.document.specs.Posology as P
 use Rattle.document.specs.Lookup.{Found, Entry}
-use Rattle.document.specs.Schema.{Family, aTimed, OfFamily, anObject, typesOf, mayStand, mayOpen, underSingle, underDays, underCyclic}
-use Rattle.document.specs.Visit.{Left, Outcome, done, guard, Value, entriesOf, valuesOf, needed, members, body, each}
+use Rattle.document.specs.Schema.{Family, aTimed, OfFamily, anObject}
+use Rattle.document.specs.Visit.{Left, Outcome, done, Value, entriesOf, valuesOf, needed, members, body, each}
 use Rattle.document.specs.Table.{timesRows, segmentsRows, timedRows, detailRows, dosageRow}
 use Rattle.document.specs.Valid.{detailRecords, objectsRecords, detailStrings, objectStrings, objectsStrings}
 use Rattle.document.specs.Words.{words, row, rows, allWords}
 use Rattle.fields.specs.At.{At}
 use Rattle.fields.specs.Names.{Slot, Once}
 use Rattle.fields.specs.Fields.{Refuses}
-use Rattle.visits.specs.declared.rows.Used.{Used}
-use Rattle.visits.specs.declared.rows.Visit.{Visit}
-use Rattle.visits.specs.declared.rows.Visit.the-variants.{Done, Refused}
-use Rattle.visits.specs.declared.opened.Opened.{Opened}
+use Rattle.opening.specs.Under.{typesUnder}
+use Rattle.opening.specs.declared.rows.Used.{Used}
+use Rattle.opening.specs.declared.rows.Visit.{Visit}
+use Rattle.opening.specs.declared.rows.Visit.the-variants.{Done, Refused}
+use Rattle.opening.specs.declared.opened.Opened.{Opened}
 
 -- What the objects so far leave of the 64 records and of the room.
 abbrev pub leftOf : ℕ → Used → Left
@@ -148,38 +148,6 @@ abbrev pub VisitsEachIn : ℕ → (f : Family) → RowsIn (List (OfFamily f)) �
 VisitsEachIn room fam rowsIn text at u before r after =
     (p : Place) (es : Elements) → At text at (list p es)
     → VisitedIn text room u before rowsIn (each (anObject fam) (valuesOf es) (leftOf room u)) r after
-
--- An object opened as far as its type: refused, or what is left to be done.
-pub record Opens (types : ℕ) (text : List ℕ) (at : ℕ) (o : Opened) (es : List (Entry Value)) : Type 0 where
-  pub refused : o .refused ≡ true → (f : Family) → typesOf f ≡ types → (l : Left) → Refuses text (members f (drop at text) es l) (o .number) (o .place)
-  pub settled : o .refused ≡ false → Once text es (o .members) (o .slots)
-  pub kind : o .refused ≡ false → (1 ≤ o .kind) × (o .kind ≤ types)
-  pub inside : o .refused ≡ false → getD (o .slots) 0 0 ≤ length text
-  pub opened : o .refused ≡ false → (f : Family) → typesOf f ≡ types → (l : Left)
-      → members f (drop at text) es l
-      ≡ guard (mayStand f (o .kind)) 10 (drop (getD (o .slots) 0 0) text)
-      (guard (mayOpen f (o .kind)) 14 (drop (getD (o .slots) 0 0) text)
-      (body f (o .kind) (bytes "t" ∷ []) (drop at text) es l))
-
-abbrev pub OpensTyped : ℕ → List ℕ → ℕ → Opened → Type 0
-OpensTyped types text at o = (p : Place) (ms : Members) → At text at (object p ms) → Opens types text at o (entriesOf ms)
-
--- The same without a type.
-pub record OpensAs (text : List ℕ) (at : ℕ) (o : Opened) (es : List (Entry Value)) : Type 0 where
-  pub refused : o .refused ≡ true → (f : Family) → typesOf f ≡ 0 → (l : Left) → Refuses text (members f (drop at text) es l) (o .number) (o .place)
-  pub settled : o .refused ≡ false → Once text es (o .members) (o .slots)
-  pub opened : o .refused ≡ false → (f : Family) → typesOf f ≡ 0 → (l : Left) → members f (drop at text) es l ≡ body f 0 [] (drop at text) es l
-
-abbrev pub OpensPlain : List ℕ → ℕ → Opened → Type 0
-OpensPlain text at o = (p : Place) (ms : Members) → At text at (object p ms) → OpensAs text at o (entriesOf ms)
-
--- The rows of the types that may stand under a timed dosage's parent, by the code's numbers: Single, days, Cyclic, Cyclic in weeks, in months.
-abbrev pub typesUnder : ℕ → List ℕ
-typesUnder parent =
-    cond (eqb parent 0) underSingle
-    (cond (eqb parent 1) underDays
-    (cond (eqb parent 2) (underCyclic 1)
-    (cond (eqb parent 3) (underCyclic 5) (underCyclic 6))))
 
 -- A timed dosage opened: 10 where its type may not stand, 15 where no record is left.
 pub record OpensUnder (parent : ℕ) (text : List ℕ) (at : ℕ) (u : Used) (o : Opened) (es : List (Entry Value)) : Type 0 where

@@ -1,11 +1,5 @@
 // Applications, at a time or in a segment of the day (document 01, "Objects").
 use crate::dosage;
-use crate::opened;
-use crate::rows;
-use crate::rows::Used;
-use crate::rows::Visit;
-use crate::rows::up;
-use crate::rows::up_found;
 use fields::field;
 use fields::field::Field;
 use fields::field::Found;
@@ -14,6 +8,12 @@ use fields::names::DO;
 use fields::names::DT;
 use fields::names::S;
 use fields::names::Unknown;
+use opening::opened;
+use opening::rows;
+use opening::rows::Used;
+use opening::rows::Visit;
+use opening::rows::up;
+use opening::rows::up_found;
 ghost use Prim.Native.Nat.{_≤_};
 ghost use lib.ListN.{length};
 ghost use Rattle.document.specs.Schema.{anAtTime, anInSegment};

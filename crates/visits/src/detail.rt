@@ -1,13 +1,5 @@
 // Details and sequences (document 01, "Objects": Daily to Sequence, PosologySequence, Pause).
 // Reading a detail calls reading a sequence and back; the sequences still allowed are the number that falls.
-use crate::opened;
-use crate::opened::Opened;
-use crate::rows;
-use crate::rows::Used;
-use crate::rows::Visit;
-use crate::rows::up;
-use crate::rows::up_found;
-use crate::rows::up_worded;
 use crate::timed;
 use fields::field;
 use fields::field::Field;
@@ -26,13 +18,26 @@ use fields::names::TDO;
 use fields::names::TDPC;
 use fields::names::TEXT;
 use fields::names::Unknown;
-ghost use mathlib.Core.Path.{_≡_};
+use opening::allowed;
+use opening::opened;
+use opening::opened::Opened;
+use opening::rows;
+use opening::rows::Used;
+use opening::rows::Visit;
+use opening::rows::WORDS;
+use opening::rows::up;
+use opening::rows::up_found;
+use opening::rows::up_worded;
 ghost use Prim.Native.Nat.{ℕ, suc, _≤_, _<_};
 ghost use lib.ListN.{length};
-ghost use Rattle.document.specs.Schema.{aDetail, aSequenceObject, underCyclic};
-ghost use Rattle.visits.specs.Visiting.{Ready, DetailAt, ObjectIn, ObjectsIn, typesUnder, VisitsBodyIn, VisitsObjectIn, VisitsEachIn, VisitsNeededIn};
+ghost use Rattle.document.specs.Schema.{aDetail, aSequenceObject};
+ghost use Rattle.visits.specs.Visiting.{Ready, DetailAt, ObjectIn, ObjectsIn, VisitsBodyIn, VisitsObjectIn, VisitsEachIn, VisitsNeededIn};
 ghost use Rattle.visits.specs.Room.{KeptIn};
 ghost use Rattle.visits.specs.Fours.{ReadsFour};
+ghost use Rattle.visits.specs.Detail.{AnswersDetail};
+
+// "at most 3 sequences inside one another"
+const SEQUENCES: usize = 3;
 
 const DAILY: [usize; 2] = [T, DS];
 
@@ -140,7 +145,7 @@ fn single(text: &[u8], at: usize, o: Opened, used: Used, words: &mut [u64]) -> V
         text,
         at,
         slots[TDO],
-        timed::UNDER_SINGLE,
+        allowed::UNDER_SINGLE,
         rows::one_more(used),
         words,
     );
@@ -161,17 +166,6 @@ fn single(text: &[u8], at: usize, o: Opened, used: Used, words: &mut [u64]) -> V
         0,
         0,
     )
-}
-
-// The row of the types that may stand under Cyclic, by its unit: 5 is the week and 6 the month.
-fn under_cyclic(unit: u64) -> usize
-    ensures { λ r. ⌜ (typesUnder r ≡ underCyclic unit) × (r < 5) ⌝ }
-{
-    match unit {
-        5 => timed::UNDER_WEEKS,
-        6 => timed::UNDER_MONTHS,
-        _ => timed::UNDER_CYCLIC,
-    }
 }
 
 fn cyclic(text: &[u8], at: usize, o: Opened, used: Used, words: &mut [u64]) -> Visit
@@ -195,7 +189,7 @@ fn cyclic(text: &[u8], at: usize, o: Opened, used: Used, words: &mut [u64]) -> V
         text,
         at,
         slots[TDO],
-        under_cyclic(unit),
+        allowed::under_cyclic(unit),
         rows::one_more(used),
         words,
     );
@@ -420,7 +414,7 @@ fn visit_detail(
 }
 
 // The detail that must stand at v in the object at `brace`.
-pub(crate) fn read_detail(
+fn read_detail(
     text: &[u8],
     brace: usize,
     v: usize,
@@ -438,4 +432,21 @@ pub(crate) fn read_detail(
         return up_found(f);
     };
     visit_detail(text, at, left, room, used, words)
+}
+
+// The detail of the posology at `brace`, for whatever is lent: words of another number, or a brace behind the text, are refused with 0.
+pub fn read_po(text: &[u8], brace: usize, v: usize, room: usize, words: &mut [u64]) -> Visit
+    ensures { λ r. ⌜ AnswersDetail room (now (text .entry)) brace v (now (words .entry)) r (now (words .exit)) ⌝ }
+{
+    if words.len() != WORDS {
+        return Visit::Refused(0, 0);
+    }
+    if text.len() < brace {
+        return Visit::Refused(0, 0);
+    }
+    let none = Used {
+        records: 0,
+        text: 0,
+    };
+    read_detail(text, brace, v, SEQUENCES, room, none, words)
 }

@@ -1,11 +1,4 @@
 // Dosages (document 01, "Objects": Simple, FromTo, Range).
-use crate::opened;
-use crate::opened::Opened;
-use crate::rows;
-use crate::rows::Used;
-use crate::rows::Visit;
-use crate::rows::up;
-use crate::rows::up_found;
 use fields::field;
 use fields::field::Field;
 use fields::field::Found;
@@ -19,11 +12,19 @@ use fields::names::DU;
 use fields::names::DU_U;
 use fields::names::T;
 use fields::names::Unknown;
+use opening::opened;
+use opening::opened::Opened;
+use opening::rows;
+use opening::rows::Used;
+use opening::rows::Visit;
+use opening::rows::up;
+use opening::rows::up_found;
 ghost use Prim.Native.Nat.{_≤_, _<_};
 ghost use lib.ListN.{length};
 ghost use Rattle.document.specs.Schema.{aDosage};
 ghost use Rattle.visits.specs.Visiting.{Ready, DosageRows, VisitsBody, VisitsObject, VisitsNeeded};
-ghost use Rattle.visits.specs.Kept.{Kept, more};
+ghost use Rattle.opening.specs.Records.{more};
+ghost use Rattle.visits.specs.Kept.{Kept};
 
 const SIMPLE: [usize; 2] = [T, A];
 

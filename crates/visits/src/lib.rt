@@ -1,8 +1,5 @@
-// The objects of a posology visited in document 01's order, each into its record of six words.
+// The objects of a posology's detail visited in document 01's order, each into its record of six words.
 mod application;
-mod detail;
+pub mod detail;
 mod dosage;
-pub mod head;
-pub mod opened;
-pub mod rows;
 mod timed;

@@ -1,13 +1,6 @@
 // Timed dosages (document 01, "Objects": DosageOnly to Interval).
 use crate::application;
 use crate::dosage;
-use crate::opened;
-use crate::opened::Opened;
-use crate::rows;
-use crate::rows::Used;
-use crate::rows::Visit;
-use crate::rows::up;
-use crate::rows::up_found;
 use fields::days;
 use fields::field;
 use fields::field::Field;
@@ -23,16 +16,24 @@ use fields::names::TDO;
 use fields::names::TS;
 use fields::names::Unknown;
 use fields::names::WDS;
-ghost use mathlib.Core.Path.{_≡_};
+use opening::allowed;
+use opening::allowed::UNDER_DAYS;
+use opening::opened;
+use opening::opened::Opened;
+use opening::rows;
+use opening::rows::Used;
+use opening::rows::Visit;
+use opening::rows::up;
+use opening::rows::up_found;
 ghost use mathlib.Core.List.{List};
 ghost use Prim.Native.Nat.{ℕ, _≤_, _<_};
 ghost use lib.ListN.{length};
 ghost use Rattle.json.specs.Tree.{Place, Members, object};
-ghost use Rattle.document.specs.Date.{among};
 ghost use Rattle.document.specs.Schema.{aTimed, underDays};
 ghost use Rattle.document.specs.Visit.{entriesOf};
 ghost use Rattle.fields.specs.At.{At};
-ghost use Rattle.visits.specs.Visiting.{Ready, TimedRows, typesUnder, OpensUnder, VisitsBody, VisitsNeeded};
+ghost use Rattle.opening.specs.Under.{typesUnder};
+ghost use Rattle.visits.specs.Visiting.{Ready, TimedRows, OpensUnder, VisitsBody, VisitsNeeded};
 ghost use Rattle.visits.specs.Kept.{Kept, Stands};
 
 const DOSAGE_ONLY: [usize; 2] = [T, DO];
@@ -47,66 +48,6 @@ const DAYS_OF_MONTH: [usize; 3] = [T, DOMS, TDO];
 
 const INTERVAL: [usize; 4] = [T, DO, MI_DU, MI_DU_U];
 
-// "Which kind may stand under which is one fixed table": a row a parent, 1 where the type 0 to 6 may stand under it.
-pub(crate) const UNDER_SINGLE: usize = 0;
-
-pub(crate) const UNDER_DAYS: usize = 1;
-
-pub(crate) const UNDER_CYCLIC: usize = 2;
-
-pub(crate) const UNDER_WEEKS: usize = 3;
-
-pub(crate) const UNDER_MONTHS: usize = 4;
-
-const ALLOWED: [u8; 35] = [
-    0,
-    1,
-    1,
-    1,
-    0,
-    0,
-    0, //
-    0,
-    1,
-    1,
-    1,
-    0,
-    0,
-    0, //
-    0,
-    1,
-    1,
-    1,
-    0,
-    0,
-    1, //
-    0,
-    1,
-    1,
-    1,
-    1,
-    0,
-    1, //
-    0,
-    1,
-    1,
-    1,
-    0,
-    1,
-    1, //
-];
-
-fn is_allowed(parent: usize, kind: u64) -> bool
-    requires { ⌜ parent < 5 ⌝ }
-    ensures { λ r. ⌜ r ≡ among kind (typesUnder parent) ⌝ }
-{
-    if 6 < kind {
-        return false;
-    }
-    let i = parent * 7 + kind as usize;
-    ALLOWED[i] == 1
-}
-
 // A timed dosage as far as its type: 10 where the type may not stand under its parent.
 fn open_timed(text: &[u8], at: usize, parent: usize, used: Used) -> Opened
     requires { ⌜ (parent < 5) × (at ≤ length (now text)) ⌝ }
@@ -118,7 +59,7 @@ fn open_timed(text: &[u8], at: usize, parent: usize, used: Used) -> Opened
         return o;
     }
     let slots = o.slots;
-    if !is_allowed(parent, o.kind) {
+    if !allowed::is_allowed(parent, o.kind) {
         return opened::refused(10, slots[T]);
     }
     if opened::is_full(used) {

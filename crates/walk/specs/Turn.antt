@@ -15,7 +15,6 @@ use Rattle.json.specs.declared.part.Part.{Part}
 use Rattle.json.specs.declared.part.Part.the-variants.{Past, Torn}
 use Rattle.walk.specs.declared.Mode.{Mode}
 use Rattle.walk.specs.declared.Mode.the-variants.{Value, FirstElement, FirstName, Name, Colon, Behind}
-use Rattle.walk.specs.declared.Walk.{Walk}
 use Rattle.walk.specs.declared.Quoted.{Quoted}
 use Rattle.walk.specs.declared.Quoted.the-variants.{Then, NoString}
 use Rattle.walk.specs.declared.Turn.{Turn}

@@ -14,6 +14,7 @@ use Rattle.document.specs.declared.table.Kind.{Kind}
 use Rattle.document.specs.declared.table.Kind.the-variants as K
 use Rattle.document.specs.declared.table.Record.{Record}
 use Rattle.words.specs.Laid.{over}
+use Rattle.words.specs.Laying.{Upto}
 use Rattle.words.specs.declared.Words as W
 use Rattle.words.proofs.Rowed.{rows-append}
 
@@ -56,9 +57,6 @@ over-below n w k e = ap (under n) e ∙ back k
     back (K.Pause du unit) = refl
     back (K.AtTime second) = refl
     back (K.InSegment s) = refl
-
-abbrev pub Upto : List Record → List ℕ → ℕ → Type 0
-Upto rs out i = (i ≤ 64) × (length out ≡ 384) × (take (i * 6) out ≡ rows (allWords (take i rs)))
 
 pub one-more : (rs : List Record) (out : List ℕ) (i : ℕ) (w : W.Words) → length rs ≡ 64 → i < 64 → Upto rs out i → over 0 w ≡ kindWords 0 (getD rs i noRecord .kind) → Upto rs (sets out (i * 6) (row (over (getD rs i noRecord .below) w) [])) (i + 1)
 one-more rs out i w l h u e =

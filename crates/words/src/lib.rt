@@ -4,12 +4,15 @@ use document::table::Kind;
 use document::table::Record;
 use document::table::Table;
 ghost use mathlib.Core.Path.{_≡_};
-ghost use mathlib.Core.List.{[], _∷_};
-ghost use Prim.Native.Nat.{_*_, _<_};
+ghost use mathlib.Core.List.{List, []};
+ghost use Prim.Native.Nat.{_*_, _<_, _≤_};
 ghost use lib.ListN.{length};
 ghost use lib.Seq.{sets};
 ghost use Rattle.document.specs.Words.{dosageWords, kindWords, allWords, row, rows};
+ghost use Rattle.document.specs.declared.table.Record.{Record};
+ghost use Rattle.kinds.specs.Kinds.{recordsIn};
 ghost use Rattle.words.specs.Laid.{over};
+ghost use Rattle.words.specs.Laying.{Upto, Makes, Unused};
 
 pub struct Words {
     pub tag: u64,
@@ -208,4 +211,47 @@ pub fn table_words(t: Table) -> [u64; 384]
         i += 1;
     }
     out
+}
+
+// From record `from` on the words are those of unused records.
+fn lay_unused(words: &mut [u64], from: usize)
+    requires { ⌜ length (now words) ≡ 384 ⌝ }
+    ensures { λ _. ⌜ ((rs : List Record) → Upto rs (now (words .entry)) from → Unused rs from → now (words .exit) ≡ rows (allWords rs)) ⌝ }
+{
+    let none = Words {
+        tag: 0,
+        a: 0,
+        b: 0,
+        c: 0,
+        d: 0,
+    };
+    let mut i = from;
+    while i < 64 {
+        lay(words, i, 0, none);
+        i += 1;
+    }
+}
+
+// The first records' words, made anew: a value that a record does not hold, as the quote's place of a FreeText, is not kept.
+fn lay_made(words: &mut [u64], count: usize)
+    requires { ⌜ (length (now words) ≡ 384) × (count ≤ 64) ⌝ }
+    ensures { λ _. ⌜ ((rs : List Record) → Makes rs count (now (words .entry)) → Upto rs (now (words .exit)) count) ⌝ }
+    ensures { λ _. ⌜ length (now (words .exit)) ≡ 384 ⌝ }
+{
+    let mut i = 0;
+    while i < count {
+        let r = kinds::record_at(words, i * 6);
+        let k = r.kind;
+        lay(words, i, r.below, kind_words(k));
+        i += 1;
+    }
+}
+
+// Words that were read, made the words of the table's records.
+pub fn tidy(words: &mut [u64; 384], count: usize)
+    ensures { λ _. ⌜ now (words .exit) ≡ rows (allWords (recordsIn count (now (words .entry)))) ⌝ }
+{
+    let n = kinds::at_most(count);
+    lay_made(words, n);
+    lay_unused(words, n);
 }

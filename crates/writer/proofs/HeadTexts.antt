@@ -1,6 +1,6 @@
 -- The plain text of a posology, field by field.
 use mathlib.Core.Path.{_≡_, refl, ap, _∙_}
-use mathlib.Core.List.{List, [], _∷_, _++_}
+use mathlib.Core.List.{List, _∷_, _++_}
 use mathlib.Core.Bool.{Bool, true, false}
 use mathlib.Core.Option.{Option, none, some}
 use Prim.Native.Nat.{ℕ}
@@ -17,7 +17,7 @@ use Rattle.document.specs.Spell.{escaped, quoted, spell, firstMember, moreMembe
 use Rattle.document.specs.Plain.{dateText, whole, textTree, dateTree, reserveTree, detailTree, mapped, field, fieldOf, membersOf, headSlots, plainTree, plainThen}
 use Rattle.document.specs.declared.table.Head.{Head}
 use Rattle.document.proofs.Dates.{Holds}
-use Rattle.writer.specs.Heads.{dateField, reserveField, mealField, textField, headFields}
+use Rattle.plain.specs.Heads.{dateField, reserveField, mealField, textField, headFields}
 use Rattle.writer.proofs.QuotedDates.{Unescaped, quoted-itself, date-unescaped}
 
 -- Behind another member stands a comma, and what would stand there first.

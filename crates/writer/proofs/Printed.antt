@@ -7,7 +7,7 @@ use native.Mathlib.Omega.{arith}
 use lib.Dec.{leb, ltb}
 use lib.ListN.{length}
 use borrow.Author.Tests.{leb-true, ltb-true}
-use Rattle.json.specs.Tree.{Tree, list, noMember}
+use Rattle.json.specs.Tree.{list, noMember}
 use Rattle.document.specs.Posology as P
 use Rattle.document.specs.Posology.{Dosage, AtTime, InSegment, Timed}
 use Rattle.document.specs.Date.{among, isSecond}
@@ -20,7 +20,7 @@ use Rattle.document.specs.declared.table.Record.{Record}
 use Rattle.document.proofs.Good.{and-left, and-right}
 use Rattle.document.proofs.DaySets.{set-back}
 use Rattle.words.specs.Standing.{At, Lies}
-use Rattle.writer.specs.Prints.{DosagePrints, simple, fromTo, range, atTime, inSegment, ApplicationsPrint, none, more, PlainPrints, dosageOnly, times, segments, TimedPrints, plain, weekDays, daysOfMonth, interval}
+use Rattle.plain.specs.Prints.{DosagePrints, simple, fromTo, range, atTime, inSegment, ApplicationsPrint, none, more, PlainPrints, dosageOnly, times, segments, TimedPrints, plain, weekDays, daysOfMonth, interval}
 
 pub duration : (n : ℕ) → isDuration n ≡ true → n ≤ greatestInteger
 duration n v = leb-true n greatestInteger (and-right (leb 1 n) (leb n greatestInteger) v)

@@ -1,6 +1,6 @@
 -- The words of a valid value are written as the value's tree: details and the objects of a sequence.
 use mathlib.Core.Path.{_≡_, refl, ap, sym, subst, _∙_}
-use mathlib.Core.List.{List, [], _∷_, _++_}
+use mathlib.Core.List.{List, [], _++_}
 use mathlib.Core.Bool.{true, _&&_, false≢true}
 use Prim.Native.Nat.{ℕ, zero, suc, _+_, _-_, _≤_}
 use native.Mathlib.Omega.{arith}
@@ -11,7 +11,7 @@ use Rattle.json.specs.Tree.{noMember}
 use Rattle.document.specs.Posology as P
 use Rattle.document.specs.Posology.{Detail, SequenceObject, SequenceObjects}
 use Rattle.document.specs.Schema.{greatestDecimal, underSingle, underCyclic}
-use Rattle.document.specs.Valid.{isAmount, isDuration, isTimeUnit, someObject, validTimed, validDetail, validObject, validObjects, timedRecords, detailRecords, objectRecords, objectsRecords, detailStrings, objectStrings, objectsStrings}
+use Rattle.document.specs.Valid.{isAmount, isDuration, isTimeUnit, someObject, validTimed, validDetail, validObject, validObjects, detailRecords, objectRecords, objectsRecords, detailStrings, objectStrings, objectsStrings}
 use Rattle.document.specs.Table.{detailRows, objectRows, objectsRows}
 use Rattle.document.specs.Words.{allWords}
 use Rattle.document.specs.Plain.{textTree, field, typed, detailTree, objectTree, objectsTree}
@@ -21,7 +21,7 @@ use Rattle.document.proofs.Untables.{joined-append}
 use Rattle.words.specs.Standing.{belowAt, Lies}
 use Rattle.checking.proofs.FoundDetail.{object-found}
 use Rattle.writer.proofs.Printed.{duration, unit, timed-prints}
-use Rattle.writer.specs.Prints.{DetailPrints, daily, freeText, single, cyclic, sequence, ObjectPrints, posology, pause, ObjectsPrint, none, more}
+use Rattle.plain.specs.Prints.{DetailPrints, daily, freeText, single, cyclic, sequence, ObjectPrints, posology, pause, ObjectsPrint, none, more}
 
 amount : (a : ℕ) → isAmount a ≡ true → a ≤ greatestDecimal
 amount a v = leb-true a greatestDecimal v

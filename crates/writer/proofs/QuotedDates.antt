@@ -15,7 +15,7 @@ use Rattle.document.specs.declared.table.Date.{Date}
 use Rattle.document.specs.declared.table.Date.the-variants.{Absent, Bare, Moment}
 use Rattle.document.proofs.Dates.{Holds}
 use Rattle.document.proofs.Sizes.{escapedRows}
-use Rattle.writer.proofs.HeadParts.{Small, day-small, moment-small}
+use Rattle.plain.proofs.HeadParts.{Small, day-small, moment-small}
 
 -- Between the quote and the backslash.
 pub data Unescaped : List ℕ → Type 0 where

@@ -6,17 +6,15 @@ use Prim.Native.Nat.{ℕ, _+_, _≤_, _<_}
 use native.Mathlib.Omega.{arith}
 use lib.Dec.{leb}
 use lib.ListN.{length, drop}
-use lib.Seq.{sets, sets-eq}
+use lib.Seq.{sets-eq}
 use borrow.Author.Tests.{le-leb, lt-leb}
 use Rattle.json.specs.Rows.{choose}
-use Rattle.document.specs.Posology.{Posology}
-use Rattle.document.specs.Valid.{isUse, valid, strings, detailStrings}
+use Rattle.document.specs.Valid.{isUse, valid}
 use Rattle.document.specs.Words.{allWords, rows}
 use Rattle.document.specs.Untable.{posologyOf}
-use Rattle.document.specs.Plain.{plain, plainThen, detailTree}
-use Rattle.document.specs.Write.{readable, Write, writes, refuses, fitting, write, writing, bufferAfter, Writes}
+use Rattle.document.specs.Plain.{plain, detailTree}
+use Rattle.document.specs.Write.{readable, writes, refuses, fitting, write, writing, bufferAfter, Writes}
 use Rattle.document.specs.Answer.{laid}
-use Rattle.document.specs.declared.table.Head.{Head}
 use Rattle.document.specs.declared.table.Table.{Table}
 use Rattle.document.specs.declared.table.Text.{Text}
 use Rattle.document.specs.declared.table.Writing.{Writing}
@@ -24,13 +22,13 @@ use Rattle.document.specs.declared.table.Writing.the-variants.{Written, Refused
 use Rattle.document.proofs.Untables.{detail-append}
 use Rattle.document.proofs.Untabled.{bytesOf, strings-append}
 use Rattle.document.proofs.Lengths.{plain-at-most}
-use Rattle.checking.specs.Readable.{PieceAt, absent, present, HeadRight, LaidAt}
+use Rattle.checking.specs.Readable.{PieceAt, absent, present}
 use Rattle.checking.proofs.Read.{readable-laid}
 use Rattle.checking.proofs.HeadValues.{valid-parts}
-use Rattle.checking.proofs.Stands.{Standing, readable-stands}
+use Rattle.checking.proofs.Stands.{readable-stands}
 use Rattle.printing.specs.Puts.{greatestPlace, upTo, Puts}
-use Rattle.writer.specs.Prints.{DetailPrints}
-use Rattle.writer.specs.Heads.{headFields, Within, Writable}
+use Rattle.plain.specs.Prints.{DetailPrints}
+use Rattle.plain.specs.Heads.{headFields, Within, Writable}
 use Rattle.writer.specs.Fits.{Fits}
 use Rattle.writer.proofs.PrintedDetail.{detail-prints}
 use Rattle.writer.proofs.HeadTexts.{head-plain}

@@ -2,6 +2,7 @@
 use Prim.Native.Nat.{_-_, _≤_}
 use lib.ListN.{length}
 use native.Mathlib.Omega.{arith}
+use mathlib.Core.Path.{sym, _∙_}
 use borrow.Author.Needs.{needs}
 use Rattle.moving.specs.Moving.{behindString, behindBracket}
 use Rattle.json.proofs.Moves.{Leads, lead-start, lead-one, lead-past, lead-end, moved}
@@ -47,7 +48,7 @@ loop-less-2 c = search needs
 loop-again-2 : tie.Need-loop-again-2 Inv-loop μ-loop
 loop-again-2 c =
     let l = c .before .before .before .before in
-    (lead-one (l .before .loop .inv .0) (l .loop-test .taken) (bracket-opens _ _ (c .before .before .if1 .left) (cc)), omega arith)
+    (lead-one (l .before .loop .inv .0) (l .loop-test .taken) (bracket-opens _ _ (c .before .before .if1 .left) (sym (c .before .opens .ensures) ∙ c .if2 .taken)), omega arith)
 
 closes-requires : tie.Need-closes-requires Inv-loop μ-loop
 closes-requires c κs = search needs
@@ -55,7 +56,7 @@ closes-requires c κs = search needs
 returns : tie.Need-returns Inv-loop μ-loop
 returns c =
     let l = c .before .before .before .before .before .before .before in
-    moved (lead-one (l .before .loop .inv .0) (l .loop-test .taken) (bracket-closes _ _ (c .before .before .before .before .before .if1 .left) (cc) (cc) (c .if4 .taken)))
+    moved (lead-one (l .before .loop .inv .0) (l .loop-test .taken) (bracket-closes _ _ (c .before .before .before .before .before .if1 .left) (sym (c .before .before .before .before .opens .ensures) ∙ c .before .before .before .if2 .left) (sym (c .before .before .closes .ensures) ∙ c .before .if3 .taken) (c .if4 .taken)))
 
 sub-open : tie.Need-sub-open Inv-loop μ-loop
 sub-open c = search needs
@@ -66,7 +67,7 @@ loop-less-3 c = search needs
 loop-again-3 : tie.Need-loop-again-3 Inv-loop μ-loop
 loop-again-3 c =
     let l = c .before .before .before .before .before .before .before in
-    (lead-one (l .before .loop .inv .0) (l .loop-test .taken) (bracket-fewer _ _ (c .before .before .before .before .before .if1 .left) (cc) (cc) (c .if4 .left)), omega arith)
+    (lead-one (l .before .loop .inv .0) (l .loop-test .taken) (bracket-fewer _ _ (c .before .before .before .before .before .if1 .left) (sym (c .before .before .before .before .opens .ensures) ∙ c .before .before .before .if2 .left) (sym (c .before .before .closes .ensures) ∙ c .before .if3 .taken) (c .if4 .left)), omega arith)
 
 loop-less-4 : tie.Need-loop-less-4 Inv-loop μ-loop
 loop-less-4 c = search needs
@@ -74,7 +75,7 @@ loop-less-4 c = search needs
 loop-again-4 : tie.Need-loop-again-4 Inv-loop μ-loop
 loop-again-4 c =
     let l = c .before .before .before .before .before .before in
-    (lead-one (l .before .loop .inv .0) (l .loop-test .taken) (bracket-goes _ _ (c .before .before .before .before .if1 .left) (cc) (cc)), omega arith)
+    (lead-one (l .before .loop .inv .0) (l .loop-test .taken) (bracket-goes _ _ (c .before .before .before .before .if1 .left) (sym (c .before .before .before .opens .ensures) ∙ c .before .before .if2 .left) (sym (c .before .closes .ensures) ∙ c .if3 .left)), omega arith)
 
 returns-2 : tie.Need-returns-2 Inv-loop μ-loop
 returns-2 c = moved (lead-end (c .before .loop .inv .0) (c .loop-test .left) (bracket-over _))

@@ -1,4 +1,5 @@
 -- Behind a value, by its kind.
+use mathlib.Core.Path.{sym, _∙_}
 use borrow.Author.Needs.{needs}
 use Rattle.moving.specs.declared.Kind.the-variants.{Object, Array, Text, Number, True, False, Null}
 use Rattle.moving.specs.Moving.{behindBracket, behindString}
@@ -62,25 +63,25 @@ behind-bytes-requires-3 : tie.Need-behind-bytes-requires-3
 behind-bytes-requires-3 c κs = search needs
 
 returns : tie.Need-returns
-returns c = moves-value _ _ _ Object (cc) (then-moves (c .before .behind-byte .ensures) (λ s. behindBracket s 0) (c .behind-bracket .ensures))
+returns c = moves-value _ _ _ Object (sym (c .before .before .before .before .kind-at .ensures) ∙ c .before .before .enum-told .given .1) (then-moves (c .before .behind-byte .ensures) (λ s. behindBracket s 0) (c .behind-bracket .ensures))
 
 returns-2 : tie.Need-returns-2
-returns-2 c = moves-value _ _ _ Array (cc) (then-moves (c .before .behind-byte2 .ensures) (λ s. behindBracket s 0) (c .behind-bracket2 .ensures))
+returns-2 c = moves-value _ _ _ Array (sym (c .before .before .before .before .kind-at .ensures) ∙ c .before .before .enum-told2 .given .1) (then-moves (c .before .behind-byte2 .ensures) (λ s. behindBracket s 0) (c .behind-bracket2 .ensures))
 
 returns-3 : tie.Need-returns-3
-returns-3 c = moves-value _ _ _ Text (cc) (then-moves (c .before .behind-byte3 .ensures) behindString (c .behind-string .ensures))
+returns-3 c = moves-value _ _ _ Text (sym (c .before .before .before .before .kind-at .ensures) ∙ c .before .before .enum-told3 .given .1) (then-moves (c .before .behind-byte3 .ensures) behindString (c .behind-string .ensures))
 
 returns-4 : tie.Need-returns-4
-returns-4 c = moves-value _ _ _ Number (cc) (c .behind-number .ensures)
+returns-4 c = moves-value _ _ _ Number (sym (c .before .before .before .kind-at .ensures) ∙ c .before .enum-told4 .given .1) (c .behind-number .ensures)
 
 returns-5 : tie.Need-returns-5
-returns-5 c = moves-value _ _ _ True (cc) (c .behind-bytes .ensures)
+returns-5 c = moves-value _ _ _ True (sym (c .before .before .before .kind-at .ensures) ∙ c .before .enum-told5 .given .1) (c .behind-bytes .ensures)
 
 returns-6 : tie.Need-returns-6
-returns-6 c = moves-value _ _ _ False (cc) (c .behind-bytes2 .ensures)
+returns-6 c = moves-value _ _ _ False (sym (c .before .before .before .kind-at .ensures) ∙ c .before .enum-told6 .given .1) (c .behind-bytes2 .ensures)
 
 returns-7 : tie.Need-returns-7
-returns-7 c = moves-value _ _ _ Null (cc) (c .behind-bytes3 .ensures)
+returns-7 c = moves-value _ _ _ Null (sym (c .before .before .before .kind-at .ensures) ∙ c .before .enum-told7 .given .1) (c .behind-bytes3 .ensures)
 
 pub behind-value-spec : {M : Type 1} → statement M
 behind-value-spec =

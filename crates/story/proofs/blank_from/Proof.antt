@@ -1,6 +1,5 @@
 -- The measure is what is left of the line.
 use Prim.Native.Nat.{_≤_, _-_}
-use mathlib.Core.Path.{_≡_}
 use lib.ListN.{length}
 use borrow.Author.Needs.{needs}
 use Rattle.story.proofs.blank_from.Statement.{statement}

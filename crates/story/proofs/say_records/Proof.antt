@@ -1,7 +1,5 @@
 -- One turn for each record.
 use Prim.Native.Nat.{_≤_, _-_}
-use mathlib.Core.Path.{_≡_}
-use lib.ListN.{length}
 use borrow.Author.Needs.{needs}
 use Rattle.story.proofs.say_records.Statement.{statement}
 use Rattle.story.proofs.say_records.Tie as tie

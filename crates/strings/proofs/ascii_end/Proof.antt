@@ -1,6 +1,7 @@
 -- Plain ASCII characters are passed over. The measure is what is left of the text.
 use borrow.Author.Needs.{needs}
 use Prim.Native.Nat.{_-_}
+use mathlib.Core.Path.{sym, _∙_}
 use lib.ListN.{length}
 use Rattle.strings.specs.Strings.{Run}
 use Rattle.strings.proofs.Runs.{run-none, run-one}
@@ -34,7 +35,7 @@ loop-less c = search needs
 loop-again : tie.Need-loop-again Inv-loop μ-loop
 loop-again c =
     let l = c .before .before .before .before in
-    run-one (l .before .loop .inv) (l .loop-test .taken) (cc)
+    run-one (l .before .loop .inv) (l .loop-test .taken) (sym (c .before .before .lead-of .ensures) ∙ c .enum-told .given .1)
 
 returns : tie.Need-returns Inv-loop μ-loop
 returns c = c .before .before .before .before .loop .inv

@@ -4,7 +4,7 @@ use borrow.Author.Needs.{needs}
 use mathlib.Core.Path.{ap}
 use lib.ListN.{length}
 use denote.Ref.{now}
-use Rattle.strings.proofs.Lengths.{from-short}
+use Rattle.characters.proofs.Lengths.{from-short}
 use Rattle.strings.proofs.Runs.{run-length}
 use Rattle.strings.proofs.decoded_length.Statement.{statement}
 use Rattle.strings.proofs.decoded_length.Tie as tie

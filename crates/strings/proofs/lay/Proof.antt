@@ -5,9 +5,9 @@ use mathlib.Core.Path.{ap}
 use lib.ListN.{length, drop}
 use denote.Ref.{now}
 use Rattle.moving.specs.Read.{decoded}
-use Rattle.strings.proofs.Lengths.{from-short}
+use Rattle.characters.proofs.Lengths.{from-short}
 use Rattle.strings.proofs.Runs.{run-length}
-use Rattle.strings.proofs.Turns.{no-room, room-for}
+use Rattle.strings.proofs.Rooms.{no-room, room-for}
 use Rattle.strings.proofs.lay.Statement.{statement}
 use Rattle.strings.proofs.lay.Tie as tie
 

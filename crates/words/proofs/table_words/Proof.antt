@@ -3,7 +3,8 @@ use Prim.Native.Nat.{_-_}
 use native.Mathlib.Omega.{arith}
 use lib.ListN.{length-map}
 use borrow.Author.Needs.{needs}
-use Rattle.words.proofs.Sets.{Upto, one-more, all-laid}
+use Rattle.words.specs.Laying.{Upto}
+use Rattle.words.proofs.Sets.{one-more, all-laid}
 use Rattle.words.proofs.table_words.Statement.{statement}
 use Rattle.words.proofs.table_words.Tie as tie
 

@@ -5,8 +5,9 @@ use mathlib.Core.List.{List, _++_}
 use native.Mathlib.Omega.{arith}
 use borrow.Author.Needs.{needs}
 use lib.ListN.{set, replicate}
-use Rattle.area.specs.Area.{groups, numberIn, numbersIn}
-use Rattle.area.proofs.Fill.{groups-set, groups-full}
+use Rattle.kinds.specs.Kinds.{groups}
+use Rattle.area.specs.Area.{numberIn, numbersIn}
+use Rattle.kinds.proofs.Fill.{groups-set, groups-full}
 use Rattle.area.proofs.back.numbers_in.Statement.{statement}
 use Rattle.area.proofs.back.numbers_in.Tie as tie
 

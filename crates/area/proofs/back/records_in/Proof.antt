@@ -1,14 +1,16 @@
 -- The 64 records, one after another.
-use Prim.Native.Nat.{_-_, _≤_}
-use mathlib.Core.Path.{_≡_, refl, ap, _∙_}
+use Prim.Native.Nat.{_+_, _*_, _-_, _≤_}
+use mathlib.Core.Path.{_≡_, refl, sym, ap, _∙_}
 use mathlib.Core.List.{List, _++_}
 use native.Mathlib.Omega.{arith}
 use borrow.Author.Needs.{needs}
 use lib.ListN.{set, drop, replicate}
+use lib.Seq.{drop-drop}
 use Rattle.document.specs.Table.{noRecord}
 use Rattle.document.specs.declared.table.Record.{Record}
-use Rattle.area.specs.Area.{groups, recordIn}
-use Rattle.area.proofs.Fill.{groups-set, groups-full}
+use Rattle.kinds.specs.Kinds.{groups, recordIn}
+use Rattle.kinds.proofs.Fill.{groups-set, groups-full}
+use Rattle.kinds.proofs.Tags.{record-inside}
 use Rattle.area.proofs.back.records_in.Statement.{statement}
 use Rattle.area.proofs.back.records_in.Tie as tie
 
@@ -22,8 +24,14 @@ loop-holds : tie.Need-loop-holds Inv-loop μ-loop
 unfolding groups
 loop-holds c = (omega arith, refl)
 
+mul-record-at : tie.Need-mul-record-at Inv-loop μ-loop
+mul-record-at c = omega arith
+
+add-record-at : tie.Need-add-record-at Inv-loop μ-loop
+add-record-at c = omega arith
+
 record-at-requires : tie.Need-record-at-requires Inv-loop μ-loop
-record-at-requires c κs = omega arith
+record-at-requires c κs = search needs
 
 mul-records : tie.Need-mul-records Inv-loop μ-loop
 mul-records c = search needs
@@ -39,10 +47,11 @@ loop-less c = omega arith
 
 loop-again : tie.Need-loop-again Inv-loop μ-loop
 loop-again c =
-    let i = c .before .before .loop .i in (
+    let i = c .before .before .before .loop .i in
+    let n = c .before .before .before .before .args .n .now in
+    let here = c .record-at .ensures ∙ record-inside n (26 + i * 6) (omega arith) ∙ ap recordIn (sym (drop-drop (i * 6) 26 n)) in (
       omega arith,
-      ap (λ (rs : List Record). set rs i (c .record-at .result)) (c .before .before .loop .inv .1)
-          ∙ groups-set 6 recordIn 64 i (drop 26 (c .before .before .before .args .n .now)) noRecord (c .record-at .result) (omega arith) (c .record-at .ensures),
+      ap (λ (rs : List Record). set rs i (c .record-at .result)) (c .before .before .before .loop .inv .1) ∙ groups-set 6 recordIn 64 i (drop 26 n) noRecord (c .record-at .result) (omega arith) here,
     )
 
 returns : tie.Need-returns Inv-loop μ-loop
@@ -55,6 +64,8 @@ records-in-spec =
     Inv-loop
     μ-loop
     loop-holds
+    mul-record-at
+    add-record-at
     record-at-requires
     mul-records
     array-set-from-records

@@ -1,104 +1,76 @@
+-- A record's words are held against their bounds, one by one.
 use native.Mathlib.Omega.{arith}
-use Rattle.checking.proofs.Decided.{yes-of, no-of}
+use borrow.Author.Tests.{not-true, not-false}
+use Rattle.checking.proofs.Decided.{no-of, as-last}
 use borrow.Author.Needs.{needs}
 use Rattle.checking.proofs.check.row.Statement.{statement}
 use Rattle.checking.proofs.check.row.Tie as tie
 
 returns : tie.Need-returns
-returns c = no-of (λ p. omega arith)
+returns c = no-of (λ p. omega (arith, p .inside))
 
 mul-at : tie.Need-mul-at
 mul-at c = search needs
 
-mul-t : tie.Need-mul-t
-mul-t c = search needs
-
-shared-slice-read-t : tie.Need-shared-slice-read-t
-shared-slice-read-t c = search needs
-
-add-n : tie.Need-add-n
-add-n c = search needs
-
-mul-n : tie.Need-mul-n
-mul-n c = search needs
-
-shared-slice-read-n : tie.Need-shared-slice-read-n
-shared-slice-read-n c = search needs
-
-add-a : tie.Need-add-a
-add-a c = search needs
-
-mul-a : tie.Need-mul-a
-mul-a c = search needs
-
-shared-slice-read-a : tie.Need-shared-slice-read-a
-shared-slice-read-a c = search needs
-
-add-b : tie.Need-add-b
-add-b c = search needs
-
-mul-b : tie.Need-mul-b
-mul-b c = search needs
-
-shared-slice-read-b : tie.Need-shared-slice-read-b
-shared-slice-read-b c = search needs
-
-add-c : tie.Need-add-c
-add-c c = search needs
-
-mul-c : tie.Need-mul-c
-mul-c c = search needs
-
-shared-slice-read-c : tie.Need-shared-slice-read-c
-shared-slice-read-c c = search needs
-
-add-d : tie.Need-add-d
-add-d c = search needs
-
-mul-d : tie.Need-mul-d
-mul-d c = search needs
-
-shared-slice-read-d : tie.Need-shared-slice-read-d
-shared-slice-read-d c = search needs
+within-requires : tie.Need-within-requires
+within-requires c κs = search needs
 
 returns-2 : tie.Need-returns-2
-returns-2 c = no-of (λ p. omega arith)
+returns-2 c = no-of (λ p. c .before .within .ensures .no (not-true _ (c .if2 .taken)) (record { no-less = omega (arith, p .tag); no-more = omega (arith, p .tag) }))
+
+add-within : tie.Need-add-within
+add-within c = search needs
+
+within-requires-2 : tie.Need-within-requires-2
+within-requires-2 c κs = search needs
 
 returns-3 : tie.Need-returns-3
-returns-3 c = no-of (λ p. omega arith)
+returns-3 c = no-of (λ p. c .before .within2 .ensures .no (not-true _ (c .if3 .taken)) (record { no-less = p .below-least; no-more = p .below-most }))
+
+add-within-2 : tie.Need-add-within-2
+add-within-2 c = search needs
+
+within-requires-3 : tie.Need-within-requires-3
+within-requires-3 c κs = search needs
 
 returns-4 : tie.Need-returns-4
-returns-4 c = no-of (λ p. omega arith)
+returns-4 c = no-of (λ p. c .before .within3 .ensures .no (not-true _ (c .if4 .taken)) (record { no-less = p .a-least; no-more = p .a-most }))
+
+add-within-3 : tie.Need-add-within-3
+add-within-3 c = search needs
+
+within-requires-4 : tie.Need-within-requires-4
+within-requires-4 c κs = search needs
 
 returns-5 : tie.Need-returns-5
-returns-5 c = no-of (λ p. omega arith)
+returns-5 c = no-of (λ p. c .before .within4 .ensures .no (not-true _ (c .if5 .taken)) (record { no-less = p .b-least; no-more = p .b-most }))
+
+add-within-4 : tie.Need-add-within-4
+add-within-4 c = search needs
+
+within-requires-5 : tie.Need-within-requires-5
+within-requires-5 c κs = search needs
 
 returns-6 : tie.Need-returns-6
-returns-6 c = no-of (λ p. omega arith)
+returns-6 c = no-of (λ p. c .before .within5 .ensures .no (not-true _ (c .if6 .taken)) (record { no-less = p .c-least; no-more = p .c-most }))
+
+add-within-5 : tie.Need-add-within-5
+add-within-5 c = search needs
+
+within-requires-6 : tie.Need-within-requires-6
+within-requires-6 c κs = search needs
 
 returns-7 : tie.Need-returns-7
-returns-7 c = no-of (λ p. omega arith)
-
-returns-8 : tie.Need-returns-8
-returns-8 c = no-of (λ p. omega arith)
-
-returns-9 : tie.Need-returns-9
-returns-9 c = no-of (λ p. omega arith)
-
-returns-10 : tie.Need-returns-10
-returns-10 c = no-of (λ p. omega arith)
-
-returns-11 : tie.Need-returns-11
-returns-11 c = no-of (λ p. omega arith)
-
-returns-12 : tie.Need-returns-12
-returns-12 c = no-of (λ p. omega arith)
-
-returns-13 : tie.Need-returns-13
-returns-13 c = no-of (λ p. omega arith)
-
-returns-14 : tie.Need-returns-14
-returns-14 c = yes-of (record { inside = omega arith; tag = omega arith; below-least = omega arith; below-most = omega arith; a-least = omega arith; a-most = omega arith; b-least = omega arith; b-most = omega arith; c-least = omega arith; c-most = omega arith; d-least = omega arith; d-most = omega arith })
+returns-7 c =
+    let tag = c .before .before .before .before .before .before .before .before .before .before .within .ensures .yes (not-false _ (c .before .before .before .before .before .before .before .before .before .if2 .left)) in
+    let below = c .before .before .before .before .before .before .before .before .within2 .ensures .yes (not-false _ (c .before .before .before .before .before .before .before .if3 .left)) in
+    let a = c .before .before .before .before .before .before .within3 .ensures .yes (not-false _ (c .before .before .before .before .before .if4 .left)) in
+    let b = c .before .before .before .before .within4 .ensures .yes (not-false _ (c .before .before .before .if5 .left)) in
+    let c₁ = c .before .before .within5 .ensures .yes (not-false _ (c .before .if6 .left)) in
+    as-last
+    (λ d. record { inside = omega arith; tag = omega (arith, tag .no-less, tag .no-more); below-least = below .no-less; below-most = below .no-more; a-least = a .no-less; a-most = a .no-more; b-least = b .no-less; b-most = b .no-more; c-least = c₁ .no-less; c-most = c₁ .no-more; d-least = d .no-less; d-most = d .no-more })
+    (λ p. record { no-less = p .d-least; no-more = p .d-most })
+    (c .within6 .ensures)
 
 pub row-spec : {M : Type 1} → statement M
 row-spec =
@@ -106,33 +78,20 @@ row-spec =
     (tie.spec
     returns
     mul-at
-    mul-t
-    shared-slice-read-t
-    add-n
-    mul-n
-    shared-slice-read-n
-    add-a
-    mul-a
-    shared-slice-read-a
-    add-b
-    mul-b
-    shared-slice-read-b
-    add-c
-    mul-c
-    shared-slice-read-c
-    add-d
-    mul-d
-    shared-slice-read-d
+    within-requires
     returns-2
+    add-within
+    within-requires-2
     returns-3
+    add-within-2
+    within-requires-3
     returns-4
+    add-within-3
+    within-requires-4
     returns-5
+    add-within-4
+    within-requires-5
     returns-6
-    returns-7
-    returns-8
-    returns-9
-    returns-10
-    returns-11
-    returns-12
-    returns-13
-    returns-14)
+    add-within-5
+    within-requires-6
+    returns-7)

@@ -6,8 +6,8 @@ use lib.ListN.{length, drop}
 use native.Mathlib.Omega.{arith}
 use borrow.Author.Needs.{needs}
 use Rattle.moving.specs.Read.{decoded}
-use Rattle.strings.specs.Strings.{plainFrom}
-use Rattle.strings.proofs.Ahead.{behind-inside}
+use Rattle.characters.specs.Characters.{plainFrom}
+use Rattle.characters.proofs.Ahead.{behind-inside}
 use Rattle.fields.specs.Names.{hashFrom}
 use Rattle.fields.proofs.Letters.{plain-ends, plain-on}
 use Rattle.fields.proofs.Hashing.{hash-ends, hash-on, slot-is}
@@ -15,10 +15,10 @@ use Rattle.fields.proofs.names.first_slot.Statement.{statement}
 use Rattle.fields.proofs.names.first_slot.Tie as tie
 
 abbrev Inv-loop : tie.InvT-loop
-Inv-loop text quote h₀ i₀ h i = hashFrom h (plainFrom text i) ≡ hashFrom 0 (decoded (drop quote text))
+Inv-loop text quote seed h₀ i₀ h i = hashFrom seed h (plainFrom text i) ≡ hashFrom seed 0 (decoded (drop quote text))
 
 abbrev μ-loop : tie.MeasureT-loop
-μ-loop text quote h₀ i₀ h i = length text - i
+μ-loop text quote seed h₀ i₀ h i = length text - i
 
 start-decoded-requires : tie.Need-start-decoded-requires Inv-loop μ-loop
 start-decoded-requires c κs = search needs
@@ -30,7 +30,7 @@ add-i : tie.Need-add-i Inv-loop μ-loop
 add-i c = omega arith
 
 loop-holds : tie.Need-loop-holds Inv-loop μ-loop
-loop-holds c = ap (hashFrom 0) (behind-inside _ _ (c .if1 .left))
+loop-holds c = ap (hashFrom _ 0) (behind-inside _ _ (c .if1 .left))
 
 shared-slice-read-b : tie.Need-shared-slice-read-b Inv-loop μ-loop
 shared-slice-read-b c = omega arith
@@ -41,7 +41,7 @@ start-of-requires c κs = search needs
 returns-2 : tie.Need-returns-2 Inv-loop μ-loop
 returns-2 c =
     let l = c .before .before .before in
-    slot-is _ (sym (hash-ends _ (plain-ends _ _ (l .loop-test .taken) (c .before .if2 .taken))) ∙ l .before .loop .inv) (c .start-of .ensures)
+    slot-is _ _ (sym (hash-ends _ _ (plain-ends _ _ (l .loop-test .taken) (c .before .if2 .taken))) ∙ l .before .loop .inv) (c .start-of .ensures)
 
 is-ascii-requires : tie.Need-is-ascii-requires Inv-loop μ-loop
 is-ascii-requires c κs = search needs
@@ -66,7 +66,7 @@ loop-again c =
     let t = c .before in
     let l = t .before .before .before .before in
     rw (c .hash-on .ensures)
-    (sym (hash-on _ (plain-on _ _ (l .loop-test .taken) (ap not (sym (t .before .is-ascii .ensures)) ∙ t .if3 .left))) ∙ l .before .loop .inv)
+    (sym (hash-on _ _ (plain-on _ _ (l .loop-test .taken) (ap not (sym (t .before .is-ascii .ensures)) ∙ t .if3 .left))) ∙ l .before .loop .inv)
 
 start-decoded-requires-3 : tie.Need-start-decoded-requires-3 Inv-loop μ-loop
 start-decoded-requires-3 c κs = search needs

@@ -1,8 +1,19 @@
--- The first factor is below 2^32 + 256, and the product below 2^64.
+-- The factors are below 2^32 + 256 and 2^31 + 2^30, and the product below 2^64.
+use native.Mathlib.Omega.{arith}
 use borrow.Author.Needs.{needs}
 use Rattle.fields.specs.Names.{hashOn}
+use Rattle.fields.proofs.Hashing.{product-fits}
 use Rattle.fields.proofs.names.hash_on.Statement.{statement}
 use Rattle.fields.proofs.names.hash_on.Tie as tie
+
+mul-factor : tie.Need-mul-factor
+mul-factor c = search needs
+
+add-factor : tie.Need-add-factor
+add-factor c = search needs
+
+add-factor-2 : tie.Need-add-factor-2
+add-factor-2 c = search needs
 
 wide-requires : tie.Need-wide-requires
 wide-requires c κs = search needs
@@ -14,11 +25,21 @@ add-result-2 : tie.Need-add-result-2
 add-result-2 c = search needs
 
 mul-result : tie.Need-mul-result
-mul-result c = search needs
+mul-result c = record { fits = product-fits (omega arith) (omega arith) }
 
 returns : tie.Need-returns
 unfolding hashOn
 returns c = rw (c .wide .ensures)
 
 pub hash-on-spec : {M : Type 1} → statement M
-hash-on-spec = tie.close (tie.spec wide-requires add-result add-result-2 mul-result returns)
+hash-on-spec =
+    tie.close
+    (tie.spec
+    mul-factor
+    add-factor
+    add-factor-2
+    wide-requires
+    add-result
+    add-result-2
+    mul-result
+    returns)

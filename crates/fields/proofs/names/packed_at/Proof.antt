@@ -6,8 +6,8 @@ use lib.ListN.{length, drop}
 use native.Mathlib.Omega.{arith}
 use borrow.Author.Needs.{needs}
 use Rattle.moving.specs.Read.{decoded}
-use Rattle.strings.specs.Strings.{plainFrom}
-use Rattle.strings.proofs.Ahead.{behind-inside}
+use Rattle.characters.specs.Characters.{plainFrom}
+use Rattle.characters.proofs.Ahead.{behind-inside}
 use Rattle.fields.proofs.Letters.{Letters, letters-none, letters-end, letters-on, plain-ends, plain-on}
 use Rattle.fields.proofs.names.packed_at.Statement.{statement}
 use Rattle.fields.proofs.names.packed_at.Tie as tie

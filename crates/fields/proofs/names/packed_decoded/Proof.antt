@@ -4,9 +4,9 @@ use native.Mathlib.Omega.{arith}
 use borrow.Author.Needs.{needs}
 use denote.Ref.{now}
 use Rattle.moving.specs.Read.{decoded}
-use Rattle.strings.specs.Strings.{ahead}
-use Rattle.strings.proofs.Ahead.{gives-one, gives-none, ahead-falls}
-use Rattle.strings.proofs.Lengths.{decoded-short}
+use Rattle.characters.specs.Characters.{ahead}
+use Rattle.characters.proofs.Ahead.{gives-one, gives-none, ahead-falls}
+use Rattle.characters.proofs.Lengths.{decoded-short}
 use Rattle.fields.proofs.Letters.{Decodes, letters-none, letters-end, letters-few, letters-on}
 use Rattle.fields.proofs.names.packed_decoded.Statement.{statement}
 use Rattle.fields.proofs.names.packed_decoded.Tie as tie

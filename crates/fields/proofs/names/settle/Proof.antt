@@ -1,13 +1,12 @@
 -- The members passed are settled, and the others stand at q. The measure is what is left of the length.
 use Prim.Native.Nat.{_-_}
 use mathlib.Core.Path.{refl, sym, _∙_}
-use mathlib.Core.Logic.{⊎-elim}
 use lib.ListN.{length, getD-replicate}
 use borrow.Author.Needs.{needs}
 use Rattle.json.specs.Tree.{Place, Members, object}
 use Rattle.fields.specs.At.{At}
-use Rattle.fields.proofs.Slots.{noted-known, noted-other}
-use Rattle.fields.proofs.Settling.{Settling, settling-none, settled-end, settled-all, again-is, settled-twice, settling-on}
+use Rattle.fields.proofs.Slots.{noted-known}
+use Rattle.fields.proofs.Settling.{Settling, settling-none, settled-end, stood, not-stood, settled-twice, settling-on}
 use Rattle.fields.proofs.names.settle.Statement.{statement}
 use Rattle.fields.proofs.names.settle.Tie as tie
 
@@ -41,10 +40,13 @@ settle-many-requires : tie.Need-settle-many-requires Inv-loop μ-loop
 settle-many-requires c κs = search needs
 
 returns-2 : tie.Need-returns-2 Inv-loop μ-loop
-returns-2 c = c .settle-many .ensures (c .before .if3 .taken)
+returns-2 c = c .settle-many .ensures
 
-stands-again-requires : tie.Need-stands-again-requires Inv-loop μ-loop
-stands-again-requires c κs = search needs
+mul-if3 : tie.Need-mul-if3 Inv-loop μ-loop
+mul-if3 c = search needs
+
+array-read-if3 : tie.Need-array-read-if3 Inv-loop μ-loop
+array-read-if3 c = search needs
 
 again-requires : tie.Need-again-requires Inv-loop μ-loop
 again-requires c κs = search needs
@@ -52,12 +54,11 @@ again-requires c κs = search needs
 returns-3 : tie.Need-returns-3 Inv-loop μ-loop
 returns-3 c p ms a =
     let u = c .before .before in
-    let n = u .before .before in
+    let n = u .before in
     let t = n .before in
     let s = t .before .before .before .loop .inv p ms a in
     rw (c .again .ensures)
-    (settled-twice s (sym (t .before .at-end .ensures) ∙ t .if1 .left)
-    (sym (again-is s _ (n .name-index .ensures)) ∙ sym (u .stands-again .ensures) ∙ c .before .if4 .taken))
+    (settled-twice s (sym (t .before .at-end .ensures) ∙ t .if1 .left) (stood s _ (u .if2 .left) (n .name-index .ensures) (c .before .if3 .taken)))
 
 value-of-requires : tie.Need-value-of-requires Inv-loop μ-loop
 value-of-requires c κs = search needs
@@ -79,22 +80,22 @@ loop-less c = search needs
 
 loop-again : tie.Need-loop-again Inv-loop μ-loop
 loop-again c p ms a =
-    let v = c .before .before in
+    let v = c .before in
     let u = v .before .before in
-    let n = u .before .before in
+    let n = u .before in
     let t = n .before in
     let l = t .before .before in
     let s = l .before .loop .inv p ms a in
     let known = n .name-index .ensures in
-    settling-on s (sym (t .before .at-end .ensures) ∙ t .if1 .left) (sym (again-is s _ known) ∙ sym (u .stands-again .ensures) ∙ v .before .if4 .left)
+    settling-on s (sym (t .before .at-end .ensures) ∙ t .if1 .left) (not-stood s _ (u .if2 .left) known (v .before .if3 .left))
     (l .loop-test .taken) _ known _ (v .value-of .ensures) _ (c .next-after .ensures) _
-    (⊎-elim (λ w. noted-known _ _ _ (s .size) (w .0 .taken) _ (w .1)) (λ w. noted-other _ _ _ (w .0 .left) _ (w .1)) (c .before .if5 .came))
+    (noted-known _ _ _ (s .size) (u .if2 .left) _ refl)
 
-once-requires-2 : tie.Need-once-requires-2 Inv-loop μ-loop
-once-requires-2 c κs = search needs
+settle-many-requires-2 : tie.Need-settle-many-requires-2 Inv-loop μ-loop
+settle-many-requires-2 c κs = search needs
 
 returns-4 : tie.Need-returns-4 Inv-loop μ-loop
-returns-4 c p ms a = rw (c .once2 .ensures) (settled-all (c .before .before .loop .inv p ms a) (c .before .loop-test .left))
+returns-4 c = c .settle-many2 .ensures
 
 pub settle-spec : {M : Type 1} → statement M
 settle-spec =
@@ -110,7 +111,8 @@ settle-spec =
     name-index-requires
     settle-many-requires
     returns-2
-    stands-again-requires
+    mul-if3
+    array-read-if3
     again-requires
     returns-3
     value-of-requires
@@ -120,5 +122,5 @@ settle-spec =
     add-members
     loop-less
     loop-again
-    once-requires-2
+    settle-many-requires-2
     returns-4)

@@ -1,5 +1,5 @@
 -- The members passed are settled, their names are in the table, and the others stand at q. The measure is what is left of the length.
-use Prim.Native.Nat.{ℕ, _-_, _<_}
+use Prim.Native.Nat.{ℕ, _-_}
 use mathlib.Core.Path.{refl, sym, _∙_}
 use mathlib.Core.Logic.{⊎-elim}
 use lib.ListN.{length, length-replicate, getD-replicate}
@@ -14,17 +14,20 @@ use Rattle.fields.proofs.names.settle_many.Statement.{statement}
 use Rattle.fields.proofs.names.settle_many.Tie as tie
 
 abbrev Inv-loop : tie.InvT-loop
-Inv-loop text at slots₀ table₀ members₀ q₀ slots table members q =
-    length text < 65535 → (p : Place) (ms : Members) → At text at (object p ms) → Tabling text at ms slots table members q
+Inv-loop text at slots₀ table₀ seed members₀ q₀ slots table members q =
+    (p : Place) (ms : Members) → At text at (object p ms) → Tabling seed text at ms slots table members q
 
 abbrev μ-loop : tie.MeasureT-loop
-μ-loop text at slots₀ table₀ members₀ q₀ slots table members q = length text - members
+μ-loop text at slots₀ table₀ seed members₀ q₀ slots table members q = length text - members
+
+seed-of-requires : tie.Need-seed-of-requires Inv-loop μ-loop
+seed-of-requires c κs = search needs
 
 first-in-requires : tie.Need-first-in-requires Inv-loop μ-loop
 first-in-requires c κs = search needs
 
 loop-holds : tie.Need-loop-holds Inv-loop μ-loop
-loop-holds c short p ms a =
+loop-holds c p ms a =
     tabling-none a (c .first-in .ensures) refl (λ i h. getD-replicate 33 i 0 0 h) (length-replicate {A = ℕ} 8192 0) (λ j h. getD-replicate 8192 j 0 0 h)
 
 at-end-requires : tie.Need-at-end-requires Inv-loop μ-loop
@@ -34,10 +37,10 @@ once-requires : tie.Need-once-requires Inv-loop μ-loop
 once-requires c κs = search needs
 
 returns : tie.Need-returns Inv-loop μ-loop
-returns c short p ms a =
+returns c p ms a =
     let e = c .before .before in
     rw (c .once .ensures)
-    (settled-end (e .before .before .loop .inv short p ms a .settling) (sym (e .at-end .ensures) ∙ c .before .if1 .taken))
+    (settled-end (e .before .before .loop .inv p ms a .settling) (sym (e .at-end .ensures) ∙ c .before .if1 .taken))
 
 slot-of-requires : tie.Need-slot-of-requires Inv-loop μ-loop
 slot-of-requires c κs = search needs
@@ -49,12 +52,12 @@ again-requires : tie.Need-again-requires Inv-loop μ-loop
 again-requires c κs = search needs
 
 returns-2 : tie.Need-returns-2 Inv-loop μ-loop
-returns-2 c short p ms a =
+returns-2 c p ms a =
     let d = c .before .before in
     let s = d .before .before in
     let t = s .before .before in
     rw (c .again .ensures)
-    (tabled-twice (t .before .before .before .loop .inv short p ms a) (s .slot-of .ensures) (sym (t .before .at-end .ensures) ∙ t .if1 .left)
+    (tabled-twice (t .before .before .before .loop .inv p ms a) (s .slot-of .ensures) (sym (t .before .at-end .ensures) ∙ t .if1 .left)
     (sym (d .stood-in .ensures) ∙ c .before .if2 .taken))
 
 cast-table : tie.Need-cast-table Inv-loop μ-loop
@@ -91,17 +94,17 @@ loop-less : tie.Need-loop-less Inv-loop μ-loop
 loop-less c = search needs
 
 loop-again : tie.Need-loop-again Inv-loop μ-loop
-loop-again c short p ms a =
+loop-again c p ms a =
     let v = c .before .before in
     let g = v .before .before in
     let d = g .before .before in
     let s = d .before .before in
     let t = s .before .before in
     let l = t .before .before in
-    let i = l .before .loop .inv short p ms a in
+    let i = l .before .loop .inv p ms a in
     tabling-on i (s .slot-of .ensures) (sym (t .before .at-end .ensures) ∙ t .if1 .left) (sym (d .stood-in .ensures) ∙ g .before .if2 .left)
-    (l .loop-test .taken) short
-    (⊎-elim (λ w. entered-in _ _ _ _ (i .tabled .size) (w .0 .taken) (w .1)) (λ w. entered-out _ _ _ _ (w .0 .left) (w .1)) (g .if3 .came))
+    (l .loop-test .taken)
+    (⊎-elim (λ w. entered-in _ _ _ _ (i .size) (w .0 .taken) (w .1)) (λ w. entered-out _ _ _ _ (w .0 .left) (w .1)) (g .if3 .came))
     _ (v .before .name-index .ensures) _ (v .value-of .ensures) _ (c .next-after .ensures) _
     (⊎-elim (λ w. noted-known _ _ _ (i .settling .size) (w .0 .taken) _ (w .1)) (λ w. noted-other _ _ _ (w .0 .left) _ (w .1)) (c .before .if4 .came))
 
@@ -109,8 +112,8 @@ once-requires-2 : tie.Need-once-requires-2 Inv-loop μ-loop
 once-requires-2 c κs = search needs
 
 returns-3 : tie.Need-returns-3 Inv-loop μ-loop
-returns-3 c short p ms a =
-    rw (c .once2 .ensures) (settled-all (c .before .before .loop .inv short p ms a .settling) (c .before .loop-test .left))
+returns-3 c p ms a =
+    rw (c .once2 .ensures) (settled-all (c .before .before .loop .inv p ms a .settling) (c .before .loop-test .left))
 
 pub settle-many-spec : {M : Type 1} → statement M
 settle-many-spec =
@@ -118,6 +121,7 @@ settle-many-spec =
     (tie.spec
     Inv-loop
     μ-loop
+    seed-of-requires
     first-in-requires
     loop-holds
     at-end-requires

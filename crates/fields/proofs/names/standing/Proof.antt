@@ -12,10 +12,10 @@ use Rattle.fields.proofs.names.standing.Statement.{statement}
 use Rattle.fields.proofs.names.standing.Tie as tie
 
 abbrev Inv-loop : tie.InvT-loop
-Inv-loop known slots i₀ n₀ i n = (i ≤ length known) × (n ≤ i) × (n + standingOf slots (drop i known) ≡ standingOf slots known)
+Inv-loop slots known i₀ n₀ i n = (i ≤ length known) × (n ≤ i) × (n + standingOf slots (drop i known) ≡ standingOf slots known)
 
 abbrev μ-loop : tie.MeasureT-loop
-μ-loop known slots i₀ n₀ i n = length known - i
+μ-loop slots known i₀ n₀ i n = length known - i
 
 loop-holds : tie.Need-loop-holds Inv-loop μ-loop
 loop-holds c = (omega arith, omega arith, omega arith)
@@ -29,8 +29,8 @@ shared-slice-read-k c = omega arith
 mul-if2 : tie.Need-mul-if2 Inv-loop μ-loop
 mul-if2 c = omega arith
 
-array-read-if2 : tie.Need-array-read-if2 Inv-loop μ-loop
-array-read-if2 c = search needs
+element-copy-out-if2 : tie.Need-element-copy-out-if2 Inv-loop μ-loop
+element-copy-out-if2 c = search needs
 
 add-n : tie.Need-add-n Inv-loop μ-loop
 add-n c = omega arith
@@ -45,21 +45,21 @@ loop-again : tie.Need-loop-again Inv-loop μ-loop
 loop-again c =
     let l = c .before .before in
     let s = l .before .before .args in
-    let on = standing-on (now (s .known)) (l .before .loop .i) (s .t1) (l .loop-test .taken) in
+    let on = standing-on (now (s .known)) (l .before .loop .i) (now (s .slots)) (l .loop-test .taken) in
     let k = getD (now (s .known)) (l .before .loop .i) 0 in
     let inv = l .before .loop .inv in
     ⊎-elim
-    (λ w. let e = stands-one (s .t1) k (w .0 .taken) (w .1 .taken) in omega (arith, on, inv, w .2))
+    (λ w. let e = stands-one (now (s .slots)) k (w .0 .taken) (w .2 .taken) in omega (arith, on, inv, w .3))
     (λ w. ⊎-elim
-    (λ v. let e = stands-not (s .t1) k (v .0 .taken) (v .1 .left) in omega (arith, on, inv, v .2))
-    (λ v. let e = stands-other (s .t1) k (v .0 .left) in omega (arith, on, inv, v .1))
+    (λ v. let e = stands-not (now (s .slots)) k (v .0 .taken) (v .2 .left) in omega (arith, on, inv, v .3))
+    (λ v. let e = stands-other (now (s .slots)) k (v .0 .left) in omega (arith, on, inv, v .1))
     w)
     (c .if1 .came)
 
 returns : tie.Need-returns Inv-loop μ-loop
 returns c =
     let s = c .before .before .args in
-    omega (arith, standing-none (now (s .known)) (c .before .loop .i) (s .t1) (c .loop-test .left), c .before .loop .inv .2)
+    omega (arith, standing-none (now (s .known)) (c .before .loop .i) (now (s .slots)) (c .loop-test .left), c .before .loop .inv .2)
 
 pub standing-spec : {M : Type 1} → statement M
 standing-spec =
@@ -71,7 +71,7 @@ standing-spec =
     mul-k
     shared-slice-read-k
     mul-if2
-    array-read-if2
+    element-copy-out-if2
     add-n
     add-i
     loop-less

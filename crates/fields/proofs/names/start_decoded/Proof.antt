@@ -3,24 +3,24 @@ use mathlib.Core.Path.{sym, ap, _∙_}
 use lib.ListN.{length, drop}
 use borrow.Author.Needs.{needs}
 use Rattle.moving.specs.Read.{decoded}
-use Rattle.strings.specs.Strings.{ahead}
-use Rattle.strings.proofs.Ahead.{gives-one, gives-none, ahead-falls}
-use Rattle.fields.specs.Names.{hashFrom, firstSlot}
+use Rattle.characters.specs.Characters.{ahead}
+use Rattle.characters.proofs.Ahead.{gives-one, gives-none, ahead-falls}
+use Rattle.fields.specs.Names.{hashFrom}
 use Rattle.fields.proofs.Hashing.{Hashes, hash-ends, hash-on, slot-is}
 use Rattle.fields.proofs.names.start_decoded.Statement.{statement}
 use Rattle.fields.proofs.names.start_decoded.Tie as tie
 
 abbrev Inv-loop : tie.InvT-loop
-Inv-loop text quote h₀ c₀ h c = Hashes text (decoded (drop quote text)) h c
+Inv-loop text quote seed h₀ c₀ h c = Hashes seed text (decoded (drop quote text)) h c
 
 abbrev μ-loop : tie.MeasureT-loop
-μ-loop text quote h₀ c₀ h c = length (ahead text c)
+μ-loop text quote seed h₀ c₀ h c = length (ahead text c)
 
 start-requires : tie.Need-start-requires Inv-loop μ-loop
 start-requires c κs = search needs
 
 loop-holds : tie.Need-loop-holds Inv-loop μ-loop
-loop-holds c = record { sound = c .start .ensures .1; hash = ap (hashFrom 0) (c .start .ensures .0) }
+loop-holds c = record { sound = c .start .ensures .1; hash = ap (hashFrom _ 0) (c .start .ensures .0) }
 
 next-requires : tie.Need-next-requires Inv-loop μ-loop
 next-requires c κs = search needs
@@ -32,7 +32,7 @@ returns : tie.Need-returns Inv-loop μ-loop
 returns c =
     let n = c .before .before .before in
     let i = n .before .loop .inv in
-    slot-is _ (sym (hash-ends _ (gives-none (n .next .ensures (i .sound)) (c .before .if1 .taken))) ∙ i .hash) (c .start-of .ensures)
+    slot-is _ _ (sym (hash-ends _ _ (gives-none (n .next .ensures (i .sound)) (c .before .if1 .taken))) ∙ i .hash) (c .start-of .ensures)
 
 hash-on-requires : tie.Need-hash-on-requires Inv-loop μ-loop
 hash-on-requires c κs = search needs
@@ -50,7 +50,7 @@ loop-again c =
     let g = n .next .ensures (i .sound) in
     record {
       sound = g .sound;
-      hash = rw (c .before .hash-on .ensures) (sym (hash-on _ (gives-one g (t .if1 .left))) ∙ i .hash);
+      hash = rw (c .before .hash-on .ensures) (sym (hash-on _ _ (gives-one g (t .if1 .left))) ∙ i .hash);
     }
 
 pub start-decoded-spec : {M : Type 1} → statement M

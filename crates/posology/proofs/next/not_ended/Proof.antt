@@ -11,25 +11,25 @@ refused-requires : tie.Need-refused-requires
 refused-requires c κs = search needs
 
 returns : tie.Need-returns
-returns c =
+returns c ws =
     let a = c .before .before .before .args in
-    rw (lt-ltb (a .p) textAtMost (c .before .if1 .taken), or-true) (c .refused .ensures)
+    rw (lt-ltb (a .p) textAtMost (c .before .if1 .taken), or-true) (c .refused .ensures ws)
 
 refused-requires-2 : tie.Need-refused-requires-2
 refused-requires-2 c κs = search needs
 
 returns-2 : tie.Need-returns-2
-returns-2 c =
+returns-2 c ws =
     let a = c .before .before .before .before .args in
-    rw (lt-leb (length (a .run .now)) textAtMost (c .before .if2 .taken), le-ltb (a .p) textAtMost (c .before .before .if1 .left)) (c .refused2 .ensures)
+    rw (lt-leb (length (a .run .now)) textAtMost (c .before .if2 .taken), le-ltb (a .p) textAtMost (c .before .before .if1 .left)) (c .refused2 .ensures ws)
 
 refused-requires-3 : tie.Need-refused-requires-3
 refused-requires-3 c κs = search needs
 
 returns-3 : tie.Need-returns-3
-returns-3 c =
+returns-3 c ws =
     let a = c .before .before .before .before .args in
-    rw (le-leb (length (a .run .now)) textAtMost (c .before .if2 .left)) (c .refused3 .ensures)
+    rw (le-leb (length (a .run .now)) textAtMost (c .before .if2 .left)) (c .refused3 .ensures ws)
 
 pub not-ended-spec : {M : Type 1} → statement M
 not-ended-spec =

@@ -1,13 +1,16 @@
--- A refusal answers the empty table.
+-- A refusal has no table.
+use mathlib.Core.Path.{refl}
+use Rattle.posology.specs.Next.{nextReadingOf}
 use borrow.Author.Needs.{needs}
 use Rattle.posology.proofs.next.refused.Statement.{statement}
 use Rattle.posology.proofs.next.refused.Tie as tie
 
-empty-table-requires : tie.Need-empty-table-requires
-empty-table-requires c κs = search needs
+refused-requires : tie.Need-refused-requires
+refused-requires c κs = search needs
 
 returns : tie.Need-returns
-returns c = rw (c .empty-table .ensures)
+unfolding nextReadingOf
+returns c ws = refl
 
 pub refused-spec : {M : Type 1} → statement M
-refused-spec = tie.close (tie.spec empty-table-requires returns)
+refused-spec = tie.close (tie.spec refused-requires returns)

@@ -4,6 +4,7 @@ use mathlib.Core.Path.{_≡_, refl, ap, sym, _∙_}
 use mathlib.Core.List.{[], _∷_}
 use Prim.Native.Nat.{suc, _+_, _*_, _-_, _≤_}
 use native.Mathlib.Omega.{arith}
+use Rattle.opening.proofs.Records.{above-stores, one-more}
 use borrow.Author.Needs.{needs}
 use lib.ListN.{length, drop}
 use Rattle.json.specs.Tree.{Place, Elements, list}
@@ -14,7 +15,7 @@ use Rattle.document.specs.Visit.{entriesOf, valuesOf, body}
 use Rattle.fields.specs.At.{At}
 use Rattle.fields.specs.Names.{nameAt, names}
 use Rattle.visits.specs.Visiting.{leftOf, DetailAt, ObjectIn, ObjectsIn}
-use Rattle.visits.specs.Kept.{more}
+use Rattle.opening.specs.Records.{more}
 use Rattle.visits.proofs.Bodies.{refuses-as, object-at, body-unknown, body-full}
 use Rattle.visits.proofs.Detailed as D
 use Rattle.visits.proofs.Detailed.{begins, took, stopped, number-is, number-refused, refused-in, did-in, refused-kept, done-kept}
@@ -51,12 +52,12 @@ use Rattle.fields.proofs.field.list_field.Reads as list-field-reads
 use Rattle.fields.proofs.field.object_field.Reads as object-field-reads
 use Rattle.fields.proofs.field.object_value.Reads as object-value-reads
 use Rattle.fields.proofs.names.unknown_name.Reads as unknown-name-reads
-use Rattle.visits.proofs.opened.is_full.Reads as is-full-reads
-use Rattle.visits.proofs.opened.open_typed.Reads as open-typed-reads
-use Rattle.visits.proofs.rows.above.Reads as above-reads
-use Rattle.visits.proofs.rows.one_more.Reads as one-more-reads
-use Rattle.visits.proofs.rows.up.Reads as up-reads
-use Rattle.visits.proofs.rows.up_found.Reads as up-found-reads
+use Rattle.opening.proofs.opened.is_full.Reads as is-full-reads
+use Rattle.opening.proofs.opened.open_typed.Reads as open-typed-reads
+use Rattle.opening.proofs.rows.above.Reads as above-reads
+use Rattle.opening.proofs.rows.one_more.Reads as one-more-reads
+use Rattle.opening.proofs.rows.up.Reads as up-reads
+use Rattle.opening.proofs.rows.up_found.Reads as up-found-reads
 use Rattle.visits.proofs.detail.+posology_sequence+read_detail+read_objects+read_sequence+read_sequence_object+visit_detail.{statement}
 use Rattle.visits.proofs.detail.+posology_sequence+read_detail+read_objects+read_sequence+read_sequence_object+visit_detail.Tie.{close}
 
@@ -263,7 +264,7 @@ posology-sequence-one-more-requires t c κs = search needs
 posology-sequence-read-detail-requires : (t : ℕ) → posology-sequence-lts.Need-read-detail-requires (posology-sequence-claims t) (posology-sequence-at t) posology-sequence.Post
 posology-sequence-read-detail-requires t c κs =
     let s = c .before .before .before .before .before .before .before .before .before .before .before .before .before .before .before .before .before in
-    (omega (arith, s .pre .0), (D.ready-more (c .before .one-more .ensures) (s .pre .1 .0) (s .pre .1 .1), s .pre .1 .2, S.more-text (s .args .used) (c .before .one-more .ensures) (s .pre .1 .3)))
+    (omega (arith, s .pre .0), (D.ready-more (one-more (s .pre .1 .1) (c .before .one-more .ensures)) (s .pre .1 .0) (s .pre .1 .1), s .pre .1 .2, S.more-text (s .args .used) (one-more (s .pre .1 .1) (c .before .one-more .ensures)) (s .pre .1 .3)))
 
 posology-sequence-enum-known-r : (t : ℕ) → posology-sequence-lts.Need-enum-known-r (posology-sequence-claims t) (posology-sequence-at t) posology-sequence.Post
 posology-sequence-enum-known-r t c = search needs
@@ -286,15 +287,13 @@ posology-sequence-returns-4 t c =
           let one = took (drop (a .at) (a .text .now)) (entriesOf ms) l "du" aDuration (λ du. need "duU" aTimeUnit λ unit. need "po" (anObject (aDetail (a .left))) λ po. gives (P.posologySequence du unit po)) begun (number-is (a .text .now) (a .at) _ _ _ (c .before .before .before .before .before .before .before .before .before .before .before .before .before .before .integer-field .ensures (s .pre .1 .2)) _ (once .slot 19 (omega arith)) l (c .before .before .before .before .before .before .before .before .before .before .before .before .f .given .1)) in
           let unit = c .before .before .before .before .before .before .before .before .f2 .given .0 .0 in
           let two = took (drop (a .at) (a .text .now)) (entriesOf ms) l "duU" aTimeUnit (λ unit. need "po" (anObject (aDetail (a .left))) λ po. gives (P.posologySequence du unit po)) one (number-is (a .text .now) (a .at) _ _ _ (c .before .before .before .before .before .before .before .before .before .before .integer-field2 .ensures (s .pre .1 .2)) _ (once .slot 18 (omega arith)) l (c .before .before .before .before .before .before .before .before .f2 .given .1)) in
-          let detail = S.detail-refused (a .left) (a .text .now) (a .at) _ (a .room) (a .used) (a .words .now) (c .before .before .before .before .read-detail .result) (c .before .before .before .before .read-detail .last .1 .1 .1 .1 .1 .1 .0) (c .before .before .before .before .before .before .one-more .ensures) (c .before .before .before .before .read-detail .ensures .0) (once .slot 22 (omega arith)) (c .enum-told4 .given .1) in
+          let detail = S.detail-refused (a .left) (a .text .now) (a .at) _ (a .room) (a .used) (a .words .now) (c .before .before .before .before .read-detail .result) (c .before .before .before .before .read-detail .last .1 .1 .1 .1 .1 .1 .0) (one-more (s .pre .1 .1) (c .before .before .before .before .before .before .one-more .ensures)) (c .before .before .before .before .read-detail .ensures .0) (once .slot 22 (omega arith)) (c .enum-told4 .given .1) in
           refused-in (a .text .now) (a .room) (a .used) (a .words .now) (ObjectIn (a .text .now)) _ _ _ (c .enum-told4 .given .1) (stopped (drop (a .at) (a .text .now)) (entriesOf ms) l "po" (anObject (aDetail (a .left))) (λ po. gives (P.posologySequence du unit po)) two (detail .0)) (detail .1),
       refused-kept (c .enum-told4 .given .1) (c .before .before .before .before .read-detail .ensures .1 .kept .size),
     )
 
 posology-sequence-above-requires : (t : ℕ) → posology-sequence-lts.Need-above-requires (posology-sequence-claims t) (posology-sequence-at t) posology-sequence.Post
-posology-sequence-above-requires t c κs =
-    let s = c .before .before .before .before .before .before .before .before .before .before .before .before .before .before .before .before .before .before .before .before .before .before .before .before in
-    (c .before .before .before .before .before .before .read-detail .ensures .1 .kept .size ∙ s .pre .1 .0 .size, s .pre .1 .1, D.more-grown (c .before .before .before .before .before .before .before .before .one-more .ensures) (c .before .before .before .before .before .before .read-detail .ensures .1 .kept .grown _ (c .before .before .r .given .1)))
+posology-sequence-above-requires t c κs = search needs
 
 posology-sequence-same-length-2 : (t : ℕ) → posology-sequence-lts.Need-same-length-2 (posology-sequence-claims t) (posology-sequence-at t) posology-sequence.Post
 posology-sequence-same-length-2 t c = search needs
@@ -304,7 +303,7 @@ unfolding rowsOf posologySequenceRows nameAt names
 posology-sequence-returns-5 t c =
     let s = c .before .before .before .before .before .before .before .before .before .before .before .before .before .before .before .before .before .before .before .before .before .before .before .before .before .before .before in
     let a = s .args in
-    let above = c .before .before .above .ensures in (
+    let above = above-stores _ _ _ (c .before .before .before .before .before .before .before .before .before .read-detail .ensures .1 .kept .size ∙ s .pre .1 .0 .size) (s .pre .1 .1) (c .before .before .above .ensures) in (
       λ p ms stands once.
           let l = leftOf (a .room) (more (a .used)) in
           let begun = begins (D.posology-sequence-known (a .left)) p (entriesOf ms) (a .room) (a .used) (s .pre .1 .1) (a .text .now) (c .before .before .before .before .before .before .before .before .before .before .before .before .before .before .before .before .before .before .before .before .before .before .unknown-name .ensures refl p ms stands once) (c .before .before .before .before .before .before .before .before .before .before .before .before .before .before .before .before .before .before .before .before .enum-told .given .1) (object-at stands) in
@@ -312,10 +311,10 @@ posology-sequence-returns-5 t c =
           let one = took (drop (a .at) (a .text .now)) (entriesOf ms) l "du" aDuration (λ du. need "duU" aTimeUnit λ unit. need "po" (anObject (aDetail (a .left))) λ po. gives (P.posologySequence du unit po)) begun (number-is (a .text .now) (a .at) _ _ _ (c .before .before .before .before .before .before .before .before .before .before .before .before .before .before .before .before .before .before .before .integer-field .ensures (s .pre .1 .2)) _ (once .slot 19 (omega arith)) l (c .before .before .before .before .before .before .before .before .before .before .before .before .before .before .before .before .before .f .given .1)) in
           let unit = c .before .before .before .before .before .before .before .before .before .before .before .before .before .f2 .given .0 .0 in
           let two = took (drop (a .at) (a .text .now)) (entriesOf ms) l "duU" aTimeUnit (λ unit. need "po" (anObject (aDetail (a .left))) λ po. gives (P.posologySequence du unit po)) one (number-is (a .text .now) (a .at) _ _ _ (c .before .before .before .before .before .before .before .before .before .before .before .before .before .before .before .integer-field2 .ensures (s .pre .1 .2)) _ (once .slot 18 (omega arith)) l (c .before .before .before .before .before .before .before .before .before .before .before .before .before .f2 .given .1)) in
-          let detail = S.detail-did (a .left) (a .text .now) (a .at) _ (a .room) (a .used) (a .words .now) (c .before .before .before .before .before .before .before .before .before .read-detail .result) (c .before .before .before .before .before .before .before .before .before .read-detail .last .1 .1 .1 .1 .1 .1 .0) (c .before .before .before .before .before .before .before .before .before .before .before .one-more .ensures) (c .before .before .before .before .before .before .before .before .before .read-detail .ensures .0) (once .slot 22 (omega arith)) (c .before .before .before .before .before .r .given .1) in
+          let detail = S.detail-did (a .left) (a .text .now) (a .at) _ (a .room) (a .used) (a .words .now) (c .before .before .before .before .before .before .before .before .before .read-detail .result) (c .before .before .before .before .before .before .before .before .before .read-detail .last .1 .1 .1 .1 .1 .1 .0) (one-more (s .pre .1 .1) (c .before .before .before .before .before .before .before .before .before .before .before .one-more .ensures)) (c .before .before .before .before .before .before .before .before .before .read-detail .ensures .0) (once .slot 22 (omega arith)) (c .before .before .before .before .before .r .given .1) in
           did-in (a .text .now) (a .room) (a .used) (a .words .now) (ObjectIn (a .text .now)) _ _ _ (above .0)
           (S.posology-sequence-did (a .text .now) detail du unit (took (drop (a .at) (a .text .now)) (entriesOf ms) l "po" (anObject (aDetail (a .left))) (λ po. gives (P.posologySequence du unit po)) two (detail .outcome)) (above .1)),
-      done-kept (above .0) (c .before .before .above .kept .0 ∙ c .before .before .before .before .before .before .before .before .before .read-detail .ensures .1 .kept .size) (D.grown-more (c .before .before .before .before .before .before .before .before .before .before .before .one-more .ensures) (c .before .before .before .before .before .before .before .before .before .read-detail .ensures .1 .kept .grown _ (c .before .before .before .before .before .r .given .1)))
+      done-kept (above .0) (c .before .before .above .kept .0 ∙ c .before .before .before .before .before .before .before .before .before .read-detail .ensures .1 .kept .size) (D.grown-more (one-more (s .pre .1 .1) (c .before .before .before .before .before .before .before .before .before .before .before .one-more .ensures)) (c .before .before .before .before .before .before .before .before .before .read-detail .ensures .1 .kept .grown _ (c .before .before .before .before .before .r .given .1)))
           (c .before .before .before .before .before .before .before .before .before .read-detail .ensures .1 .fits _ (c .before .before .before .before .before .r .given .1)),
     )
 
@@ -537,7 +536,7 @@ read-sequence-one-more-requires t c κs = search needs
 read-sequence-read-objects-requires : (t : ℕ) → read-sequence-lts.Need-read-objects-requires (read-sequence-claims t) (read-sequence-at t) read-sequence.Post
 read-sequence-read-objects-requires t c κs =
     let s = c .before .before .before .before .before .before .before .before .before .before .before .before .before .before .before .before in
-    (omega (arith, s .pre .0), (D.ready-more (c .before .one-more .ensures) (s .pre .1 .0) (s .pre .1 .1), omega (arith, c .before .before .before .before .before .before .before .before .list-field .ensures .1 _ (c .before .before .before .before .before .before .f .given .1)), S.more-text (s .args .used) (c .before .one-more .ensures) (s .pre .1 .3)))
+    (omega (arith, s .pre .0), (D.ready-more (one-more (s .pre .1 .1) (c .before .one-more .ensures)) (s .pre .1 .0) (s .pre .1 .1), omega (arith, c .before .before .before .before .before .before .before .before .list-field .ensures .1 _ (c .before .before .before .before .before .before .f .given .1)), S.more-text (s .args .used) (one-more (s .pre .1 .1) (c .before .one-more .ensures)) (s .pre .1 .3)))
 
 read-sequence-enum-known-r : (t : ℕ) → read-sequence-lts.Need-enum-known-r (read-sequence-claims t) (read-sequence-at t) read-sequence.Post
 read-sequence-enum-known-r t c = search needs
@@ -557,15 +556,13 @@ read-sequence-returns-4 t c =
           let l = leftOf (a .room) (more (a .used)) in
           let begun = begins (D.sequence-known (suc (a .inside))) p (entriesOf ms) (a .room) (a .used) (s .pre .1 .1) (a .text .now) (c .before .before .before .before .before .before .before .before .before .before .before .before .before .before .before .before .unknown-name .ensures refl p ms stands once) (c .before .before .before .before .before .before .before .before .before .before .before .before .before .before .enum-told .given .1) (object-at stands) in
           let list = D.list-is (a .text .now) (a .at) _ (c .before .before .before .before .before .before .before .before .before .before .before .before .before .list-field .ensures .0 (s .pre .1 .2)) (once .slot 7 (omega arith)) (c .before .before .before .before .before .before .before .before .before .before .before .f .given .1) in
-          let objects = S.objects-refused (a .inside) (a .text .now) _ (a .room) (a .used) (a .words .now) (c .before .before .before .before .read-objects .result) (c .before .before .before .before .read-objects .last .1 .1 .1 .1 .1 .0) (c .before .before .before .before .before .before .one-more .ensures) (c .before .before .before .before .read-objects .ensures .0) (list .stands) (c .enum-told3 .given .1) in
+          let objects = S.objects-refused (a .inside) (a .text .now) _ (a .room) (a .used) (a .words .now) (c .before .before .before .before .read-objects .result) (c .before .before .before .before .read-objects .last .1 .1 .1 .1 .1 .0) (one-more (s .pre .1 .1) (c .before .before .before .before .before .before .one-more .ensures)) (c .before .before .before .before .read-objects .ensures .0) (list .stands) (c .enum-told3 .given .1) in
           refused-in (a .text .now) (a .room) (a .used) (a .words .now) (DetailAt (a .text .now)) _ _ _ (c .enum-told3 .given .1) (stopped (drop (a .at) (a .text .now)) (entriesOf ms) l "sos" (aList (some-objects (aSequenceObject (suc (a .inside) - 1)))) (λ os. gives (P.sequence (P.ordered os))) begun (refuses-as (S.some-object list (c .before .before .before .before .before .before .before .before .before .first-in .ensures) (a .inside) l (sym (c .before .before .before .before .before .before .before .before .at-end .ensures) ∙ c .before .before .before .before .before .before .before .if1 .left)) (objects .0))) (objects .1),
       refused-kept (c .enum-told3 .given .1) (c .before .before .before .before .read-objects .ensures .1 .kept .size),
     )
 
 read-sequence-above-requires : (t : ℕ) → read-sequence-lts.Need-above-requires (read-sequence-claims t) (read-sequence-at t) read-sequence.Post
-read-sequence-above-requires t c κs =
-    let s = c .before .before .before .before .before .before .before .before .before .before .before .before .before .before .before .before .before .before .before .before .before .before .before in
-    (c .before .before .before .before .before .before .read-objects .ensures .1 .kept .size ∙ s .pre .1 .0 .size, s .pre .1 .1, D.more-grown (c .before .before .before .before .before .before .before .before .one-more .ensures) (c .before .before .before .before .before .before .read-objects .ensures .1 .kept .grown _ (c .before .before .r .given .1)))
+read-sequence-above-requires t c κs = search needs
 
 read-sequence-same-length-2 : (t : ℕ) → read-sequence-lts.Need-same-length-2 (read-sequence-claims t) (read-sequence-at t) read-sequence.Post
 read-sequence-same-length-2 t c = search needs
@@ -575,15 +572,15 @@ unfolding rowsOf sequenceRows nameAt names
 read-sequence-returns-5 t c =
     let s = c .before .before .before .before .before .before .before .before .before .before .before .before .before .before .before .before .before .before .before .before .before .before .before .before .before .before in
     let a = s .args in
-    let above = c .before .before .above .ensures in (
+    let above = above-stores _ _ _ (c .before .before .before .before .before .before .before .before .before .read-objects .ensures .1 .kept .size ∙ s .pre .1 .0 .size) (s .pre .1 .1) (c .before .before .above .ensures) in (
       λ p ms stands once.
           let l = leftOf (a .room) (more (a .used)) in
           let begun = begins (D.sequence-known (suc (a .inside))) p (entriesOf ms) (a .room) (a .used) (s .pre .1 .1) (a .text .now) (c .before .before .before .before .before .before .before .before .before .before .before .before .before .before .before .before .before .before .before .before .before .unknown-name .ensures refl p ms stands once) (c .before .before .before .before .before .before .before .before .before .before .before .before .before .before .before .before .before .before .before .enum-told .given .1) (object-at stands) in
           let list = D.list-is (a .text .now) (a .at) _ (c .before .before .before .before .before .before .before .before .before .before .before .before .before .before .before .before .before .before .list-field .ensures .0 (s .pre .1 .2)) (once .slot 7 (omega arith)) (c .before .before .before .before .before .before .before .before .before .before .before .before .before .before .before .before .f .given .1) in
-          let objects = S.objects-did (a .inside) (a .text .now) _ (a .room) (a .used) (a .words .now) (c .before .before .before .before .before .before .before .before .before .read-objects .result) (c .before .before .before .before .before .before .before .before .before .read-objects .last .1 .1 .1 .1 .1 .0) (c .before .before .before .before .before .before .before .before .before .before .before .one-more .ensures) (c .before .before .before .before .before .before .before .before .before .read-objects .ensures .0) (list .stands) (c .before .before .before .before .before .r .given .1) in
+          let objects = S.objects-did (a .inside) (a .text .now) _ (a .room) (a .used) (a .words .now) (c .before .before .before .before .before .before .before .before .before .read-objects .result) (c .before .before .before .before .before .before .before .before .before .read-objects .last .1 .1 .1 .1 .1 .0) (one-more (s .pre .1 .1) (c .before .before .before .before .before .before .before .before .before .before .before .one-more .ensures)) (c .before .before .before .before .before .before .before .before .before .read-objects .ensures .0) (list .stands) (c .before .before .before .before .before .r .given .1) in
           did-in (a .text .now) (a .room) (a .used) (a .words .now) (DetailAt (a .text .now)) _ _ _ (above .0)
           (S.sequence-did (a .text .now) objects (took (drop (a .at) (a .text .now)) (entriesOf ms) l "sos" (aList (some-objects (aSequenceObject (suc (a .inside) - 1)))) (λ os. gives (P.sequence (P.ordered os))) begun (S.some-object list (c .before .before .before .before .before .before .before .before .before .before .before .before .before .before .first-in .ensures) (a .inside) l (sym (c .before .before .before .before .before .before .before .before .before .before .before .before .before .at-end .ensures) ∙ c .before .before .before .before .before .before .before .before .before .before .before .before .if1 .left) ∙ objects .outcome)) (above .1)),
-      done-kept (above .0) (c .before .before .above .kept .0 ∙ c .before .before .before .before .before .before .before .before .before .read-objects .ensures .1 .kept .size) (D.grown-more (c .before .before .before .before .before .before .before .before .before .before .before .one-more .ensures) (c .before .before .before .before .before .before .before .before .before .read-objects .ensures .1 .kept .grown _ (c .before .before .before .before .before .r .given .1)))
+      done-kept (above .0) (c .before .before .above .kept .0 ∙ c .before .before .before .before .before .before .before .before .before .read-objects .ensures .1 .kept .size) (D.grown-more (one-more (s .pre .1 .1) (c .before .before .before .before .before .before .before .before .before .before .before .one-more .ensures)) (c .before .before .before .before .before .before .before .before .before .read-objects .ensures .1 .kept .grown _ (c .before .before .before .before .before .r .given .1)))
           (c .before .before .before .before .before .before .before .before .before .read-objects .ensures .1 .fits _ (c .before .before .before .before .before .r .given .1)),
     )
 
@@ -593,7 +590,7 @@ read-sequence-object-open-typed-requires t c κs = search needs
 read-sequence-object-returns : (t : ℕ) → read-sequence-object-lts.Need-returns (read-sequence-object-claims t) (read-sequence-object-at t) read-sequence-object.Post
 read-sequence-object-returns t c =
     let a = c .before .before .before .before .args in
-    (λ p ms stands. (S.open-refused (c .before .open-typed .ensures p ms stands) (aSequenceObject (a .left)) refl p (object-at stands) (leftOf (a .room) (a .used)) (c .if1 .taken), refl), refused-kept refl refl)
+    (λ p ms stands. (S.open-refused (c .before .open-typed .ensures (omega arith) p ms stands) (aSequenceObject (a .left)) refl p (object-at stands) (leftOf (a .room) (a .used)) (c .if1 .taken), refl), refused-kept refl refl)
 
 read-sequence-object-is-full-requires : (t : ℕ) → read-sequence-object-lts.Need-is-full-requires (read-sequence-object-claims t) (read-sequence-object-at t) read-sequence-object.Post
 read-sequence-object-is-full-requires t c κs = search needs
@@ -603,7 +600,7 @@ read-sequence-object-returns-2 t c =
     let s = c .before .before .before .before .before .before in
     let a = s .args in (
       λ p ms stands. (
-        refuses-as (S.open-body (c .before .before .before .open-typed .ensures p ms stands) (aSequenceObject (a .left)) refl p (object-at stands) (leftOf (a .room) (a .used)) (c .before .before .if1 .left) refl refl)
+        refuses-as (S.open-body (c .before .before .before .open-typed .ensures (omega arith) p ms stands) (aSequenceObject (a .left)) refl p (object-at stands) (leftOf (a .room) (a .used)) (c .before .before .if1 .left) refl refl)
             (body-full (aSequenceObject (a .left)) _ (bytes "t" ∷ []) p (entriesOf ms) (a .room) (a .used) refl (S.full (c .before .is-full .ensures) (c .if2 .taken)) (a .at) (object-at stands) (s .pre .1 .1)),
         refl,
       ),
@@ -628,8 +625,8 @@ read-sequence-object-returns-3 t c =
     let a = c .before .before .before .before .before .before .before .before .before .before .before .args in (
       λ p ms stands.
           S.visited-as (a .text .now) (a .room) (a .used) (a .words .now) (ObjectIn (a .text .now)) (c .before .before .posology-sequence .result) (c .before .before .posology-sequence .last .1 .1 .1 .1 .1 .1 .0)
-          (S.open-body (c .before .before .before .before .before .before .before .before .open-typed .ensures p ms stands) (aSequenceObject (a .left)) refl p (object-at stands) (leftOf (a .room) (a .used)) (c .before .before .before .before .before .before .before .if1 .left) refl refl ∙ ap (λ (k : ℕ). body (aSequenceObject (a .left)) k (bytes "t" ∷ []) p (entriesOf ms) (leftOf (a .room) (a .used))) (c .before .before .before .before .match .keys1))
-          (c .before .before .posology-sequence .ensures .0 p ms stands (c .before .before .before .before .before .before .before .before .open-typed .ensures p ms stands .settled (c .before .before .before .before .before .before .before .if1 .left))),
+          (S.open-body (c .before .before .before .before .before .before .before .before .open-typed .ensures (omega arith) p ms stands) (aSequenceObject (a .left)) refl p (object-at stands) (leftOf (a .room) (a .used)) (c .before .before .before .before .before .before .before .if1 .left) refl refl ∙ ap (λ (k : ℕ). body (aSequenceObject (a .left)) k (bytes "t" ∷ []) p (entriesOf ms) (leftOf (a .room) (a .used))) (c .before .before .before .before .match .keys1))
+          (c .before .before .posology-sequence .ensures .0 p ms stands (c .before .before .before .before .before .before .before .before .open-typed .ensures (omega arith) p ms stands .settled (c .before .before .before .before .before .before .before .if1 .left))),
       c .before .before .posology-sequence .ensures .1,
     )
 
@@ -642,8 +639,8 @@ read-sequence-object-returns-4 t c =
     let a = s .args in (
       λ p ms stands.
           S.visited-as (a .text .now) (a .room) (a .used) (a .words .now) (ObjectIn (a .text .now)) (c .before .before .pause .result) (c .before .before .pause .last .1 .1 .1 .1 .0)
-          (S.open-body (c .before .before .before .before .before .before .before .before .open-typed .ensures p ms stands) (aSequenceObject (a .left)) refl p (object-at stands) (leftOf (a .room) (a .used)) (c .before .before .before .before .before .before .before .if1 .left) refl refl ∙ ap (λ (k : ℕ). body (aSequenceObject (a .left)) k (bytes "t" ∷ []) p (entriesOf ms) (leftOf (a .room) (a .used))) (S.is-two _ (c .before .before .before .before .match .rest .1) (c .before .before .before .before .before .before .before .before .open-typed .ensures p ms stands .kind (c .before .before .before .before .before .before .before .if1 .left))))
-          (c .before .before .pause .ensures .0 (a .left) (a .room) (s .pre .1 .2) p ms stands (c .before .before .before .before .before .before .before .before .open-typed .ensures p ms stands .settled (c .before .before .before .before .before .before .before .if1 .left))),
+          (S.open-body (c .before .before .before .before .before .before .before .before .open-typed .ensures (omega arith) p ms stands) (aSequenceObject (a .left)) refl p (object-at stands) (leftOf (a .room) (a .used)) (c .before .before .before .before .before .before .before .if1 .left) refl refl ∙ ap (λ (k : ℕ). body (aSequenceObject (a .left)) k (bytes "t" ∷ []) p (entriesOf ms) (leftOf (a .room) (a .used))) (S.is-two _ (c .before .before .before .before .match .rest .1) (c .before .before .before .before .before .before .before .before .open-typed .ensures (omega arith) p ms stands .kind (c .before .before .before .before .before .before .before .if1 .left))))
+          (c .before .before .pause .ensures .0 (a .left) (a .room) (s .pre .1 .2) p ms stands (c .before .before .before .before .before .before .before .before .open-typed .ensures (omega arith) p ms stands .settled (c .before .before .before .before .before .before .before .if1 .left))),
       c .before .before .pause .ensures .1 (a .room) (s .pre .1 .2),
     )
 
@@ -653,7 +650,7 @@ visit-detail-open-typed-requires t c κs = search needs
 visit-detail-returns : (t : ℕ) → visit-detail-lts.Need-returns (visit-detail-claims t) (visit-detail-at t) visit-detail.Post
 visit-detail-returns t c =
     let a = c .before .before .before .before .args in
-    (λ p ms stands. (S.open-refused (c .before .open-typed .ensures p ms stands) (aDetail (a .left)) refl p (object-at stands) (leftOf (a .room) (a .used)) (c .if1 .taken), refl), refused-kept refl refl)
+    (λ p ms stands. (S.open-refused (c .before .open-typed .ensures (omega arith) p ms stands) (aDetail (a .left)) refl p (object-at stands) (leftOf (a .room) (a .used)) (c .if1 .taken), refl), refused-kept refl refl)
 
 visit-detail-array-read-t13 : (t : ℕ) → visit-detail-lts.Need-array-read-t13 (visit-detail-claims t) (visit-detail-at t) visit-detail.Post
 visit-detail-array-read-t13 t c = search needs
@@ -661,7 +658,7 @@ visit-detail-array-read-t13 t c = search needs
 visit-detail-returns-2 : (t : ℕ) → visit-detail-lts.Need-returns-2 (visit-detail-claims t) (visit-detail-at t) visit-detail.Post
 visit-detail-returns-2 t c =
     let a = c .before .before .before .before .before .before .before .before .args in
-    (λ p ms stands. (S.open-deep (c .before .before .before .before .before .open-typed .ensures p ms stands) (aDetail (a .left)) refl p (object-at stands) (leftOf (a .room) (a .used)) (c .before .before .before .before .if1 .left) refl (S.opens-none (a .left) (c .before .before .before .before .before .open-typed .result .kind) (c .before .if2 .taken) (c .if3 .taken)), refl), refused-kept refl refl)
+    (λ p ms stands. (S.open-deep (c .before .before .before .before .before .open-typed .ensures (omega arith) p ms stands) (aDetail (a .left)) refl p (object-at stands) (leftOf (a .room) (a .used)) (c .before .before .before .before .if1 .left) refl (S.opens-none (a .left) (c .before .before .before .before .before .open-typed .result .kind) (c .before .if2 .taken) (c .if3 .taken)), refl), refused-kept refl refl)
 
 visit-detail-is-full-requires : (t : ℕ) → visit-detail-lts.Need-is-full-requires (visit-detail-claims t) (visit-detail-at t) visit-detail.Post
 visit-detail-is-full-requires t c κs = search needs
@@ -671,7 +668,7 @@ visit-detail-returns-3 t c =
     let s = c .before .before .before .before .before .before .before .before .before .before in
     let a = s .args in (
       λ p ms stands. (
-        refuses-as (S.open-body (c .before .before .before .before .before .before .before .open-typed .ensures p ms stands) (aDetail (a .left)) refl p (object-at stands) (leftOf (a .room) (a .used)) (c .before .before .before .before .before .before .if1 .left) refl (S.opens-sequence (a .left) (c .before .before .before .before .before .before .before .open-typed .result .kind) (c .before .before .if3 .left)))
+        refuses-as (S.open-body (c .before .before .before .before .before .before .before .open-typed .ensures (omega arith) p ms stands) (aDetail (a .left)) refl p (object-at stands) (leftOf (a .room) (a .used)) (c .before .before .before .before .before .before .if1 .left) refl (S.opens-sequence (a .left) (c .before .before .before .before .before .before .before .open-typed .result .kind) (c .before .before .if3 .left)))
             (body-full (aDetail (a .left)) _ (bytes "t" ∷ []) p (entriesOf ms) (a .room) (a .used) refl (S.full (c .before .is-full .ensures) (c .if4 .taken)) (a .at) (object-at stands) (s .pre .1 .1)),
         refl,
       ),
@@ -694,8 +691,8 @@ visit-detail-returns-4 t c =
     let a = c .before .before .before .before .before .before .before .before .before .before .before .before .before .before .args in (
       λ p ms stands.
           S.visited-as (a .text .now) (a .room) (a .used) (a .words .now) (DetailAt (a .text .now)) (c .before .before .read-sequence .result) (c .before .before .read-sequence .last .1 .1 .1 .1 .1 .1 .0)
-          (S.open-body (c .before .before .before .before .before .before .before .before .before .before .before .open-typed .ensures p ms stands) (aDetail (a .left)) refl p (object-at stands) (leftOf (a .room) (a .used)) (c .before .before .before .before .before .before .before .before .before .before .if1 .left) refl (S.opens-sequence (a .left) (c .before .before .before .before .before .before .before .before .before .before .before .open-typed .result .kind) (c .before .before .before .before .before .before .if3 .left)) ∙ ap (λ (k : ℕ). body (aDetail (a .left)) k (bytes "t" ∷ []) p (entriesOf ms) (leftOf (a .room) (a .used))) (c .before .before .before .before .before .before .before .if2 .taken) ∙ ap (λ (k : ℕ). body (aDetail k) 5 (bytes "t" ∷ []) p (entriesOf ms) (leftOf (a .room) (a .used))) (S.one-back _ (c .before .before .before .before .before .before .if3 .left)))
-          (c .before .before .read-sequence .ensures .0 p ms stands (c .before .before .before .before .before .before .before .before .before .before .before .open-typed .ensures p ms stands .settled (c .before .before .before .before .before .before .before .before .before .before .if1 .left))),
+          (S.open-body (c .before .before .before .before .before .before .before .before .before .before .before .open-typed .ensures (omega arith) p ms stands) (aDetail (a .left)) refl p (object-at stands) (leftOf (a .room) (a .used)) (c .before .before .before .before .before .before .before .before .before .before .if1 .left) refl (S.opens-sequence (a .left) (c .before .before .before .before .before .before .before .before .before .before .before .open-typed .result .kind) (c .before .before .before .before .before .before .if3 .left)) ∙ ap (λ (k : ℕ). body (aDetail (a .left)) k (bytes "t" ∷ []) p (entriesOf ms) (leftOf (a .room) (a .used))) (c .before .before .before .before .before .before .before .if2 .taken) ∙ ap (λ (k : ℕ). body (aDetail k) 5 (bytes "t" ∷ []) p (entriesOf ms) (leftOf (a .room) (a .used))) (S.one-back _ (c .before .before .before .before .before .before .if3 .left)))
+          (c .before .before .read-sequence .ensures .0 p ms stands (c .before .before .before .before .before .before .before .before .before .before .before .open-typed .ensures (omega arith) p ms stands .settled (c .before .before .before .before .before .before .before .before .before .before .if1 .left))),
       c .before .before .read-sequence .ensures .1,
     )
 
@@ -707,7 +704,7 @@ visit-detail-returns-5 t c =
     let s = c .before .before .before .before .before .before .before .before .before in
     let a = s .args in (
       λ p ms stands. (
-        refuses-as (S.open-body (c .before .before .before .before .before .before .open-typed .ensures p ms stands) (aDetail (a .left)) refl p (object-at stands) (leftOf (a .room) (a .used)) (c .before .before .before .before .before .if1 .left) refl (S.opens-plain (a .left) (c .before .before .before .before .before .before .open-typed .result .kind) (c .before .before .if2 .left)))
+        refuses-as (S.open-body (c .before .before .before .before .before .before .open-typed .ensures (omega arith) p ms stands) (aDetail (a .left)) refl p (object-at stands) (leftOf (a .room) (a .used)) (c .before .before .before .before .before .if1 .left) refl (S.opens-plain (a .left) (c .before .before .before .before .before .before .open-typed .result .kind) (c .before .before .if2 .left)))
             (body-full (aDetail (a .left)) _ (bytes "t" ∷ []) p (entriesOf ms) (a .room) (a .used) refl (S.full (c .before .is-full2 .ensures) (c .if5 .taken)) (a .at) (object-at stands) (s .pre .1 .1)),
         refl,
       ),
@@ -727,8 +724,8 @@ visit-detail-returns-6 t c =
     let a = c .before .before .before .before .before .before .before .before .before .before .before .before .before .args in (
       λ p ms stands.
           S.visited-as (a .text .now) (a .room) (a .used) (a .words .now) (DetailAt (a .text .now)) (c .before .before .plain-detail .result) (c .before .before .plain-detail .last .1 .1 .1 .1 .1 .0)
-          (S.open-body (c .before .before .before .before .before .before .before .before .before .before .open-typed .ensures p ms stands) (aDetail (a .left)) refl p (object-at stands) (leftOf (a .room) (a .used)) (c .before .before .before .before .before .before .before .before .before .if1 .left) refl (S.opens-plain (a .left) (c .before .before .before .before .before .before .before .before .before .before .open-typed .result .kind) (c .before .before .before .before .before .before .if2 .left)))
-          (c .before .before .plain-detail .ensures .0 (c .before .before .before .before .before .before .before .before .before .before .open-typed .ensures p ms stands .kind (c .before .before .before .before .before .before .before .before .before .if1 .left) .0) (S.below-five _ (c .before .before .before .before .before .before .if2 .left) (c .before .before .before .before .before .before .before .before .before .before .open-typed .ensures p ms stands .kind (c .before .before .before .before .before .before .before .before .before .if1 .left))) (a .left) p ms stands (c .before .before .before .before .before .before .before .before .before .before .open-typed .ensures p ms stands .settled (c .before .before .before .before .before .before .before .before .before .if1 .left))),
+          (S.open-body (c .before .before .before .before .before .before .before .before .before .before .open-typed .ensures (omega arith) p ms stands) (aDetail (a .left)) refl p (object-at stands) (leftOf (a .room) (a .used)) (c .before .before .before .before .before .before .before .before .before .if1 .left) refl (S.opens-plain (a .left) (c .before .before .before .before .before .before .before .before .before .before .open-typed .result .kind) (c .before .before .before .before .before .before .if2 .left)))
+          (c .before .before .plain-detail .ensures .0 (c .before .before .before .before .before .before .before .before .before .before .open-typed .ensures (omega arith) p ms stands .kind (c .before .before .before .before .before .before .before .before .before .if1 .left) .0) (S.below-five _ (c .before .before .before .before .before .before .if2 .left) (c .before .before .before .before .before .before .before .before .before .before .open-typed .ensures (omega arith) p ms stands .kind (c .before .before .before .before .before .before .before .before .before .if1 .left))) (a .left) p ms stands (c .before .before .before .before .before .before .before .before .before .before .open-typed .ensures (omega arith) p ms stands .settled (c .before .before .before .before .before .before .before .before .before .if1 .left))),
       c .before .before .plain-detail .ensures .1,
     )
 

@@ -1,11 +1,12 @@
 -- The four decimals of a Daily, in one record.
 use mathlib.Core.Path.{refl}
 use Rattle.visits.specs.Visiting.{leftOf}
-use Rattle.visits.specs.Kept.{more}
+use Rattle.opening.specs.Records.{more}
 use Rattle.visits.specs.Fours.{FourIn}
 use Rattle.visits.proofs.Rowed.{leaf-did}
 use Rattle.visits.proofs.Detailed as D
 use Rattle.visits.proofs.Detailed.{refused-in, did-in, refused-kept, done-kept}
+use Rattle.opening.proofs.Records.{leaf-stores}
 use borrow.Author.Needs.{needs}
 use Rattle.visits.proofs.detail.four.Statement.{statement}
 use Rattle.visits.proofs.detail.four.Tie as tie
@@ -111,9 +112,7 @@ returns-4 c =
     )
 
 leaf-requires : tie.Need-leaf-requires
-leaf-requires c κs =
-    let s = c .before .before .before .before .before .before .before .before .before .before .before .before .before .before .before .before .before .before .before .before .before .before .before in
-    (s .pre .0 .size, s .pre .1)
+leaf-requires c κs = search needs
 
 same-length : tie.Need-same-length
 same-length c = search needs
@@ -122,7 +121,7 @@ returns-5 : tie.Need-returns-5
 returns-5 c =
     let s = c .before .before .before .before .before .before .before .before .before .before .before .before .before .before .before .before .before .before .before .before .before .before .before .before .before .before in
     let a = s .args in
-    let leaf = c .before .before .leaf .ensures in (
+    let leaf = leaf-stores _ _ _ (s .pre .0 .size) (s .pre .1) (c .before .before .leaf .ensures) in (
       λ room p es stands fits four.
           did-in (a .text .now) room (a .used) (a .words .now) FourIn _ _ _ (leaf .0)
           (leaf-did _ _ (D.four-read stands (D.four-of es four) (leftOf room (more (a .used))) (c .before .before .before .before .before .before .before .before .before .before .before .before .before .before .before .before .before .before .before .before .before .before .before .first-in .ensures) _ (c .before .before .before .before .before .before .before .before .before .before .before .before .before .before .before .before .before .before .before .before .before .before .decimal-value .ensures) (c .before .before .before .before .before .before .before .before .before .before .before .before .before .before .before .before .before .before .before .before .f .given .1) (c .before .before .before .before .before .before .before .before .before .before .before .before .before .before .before .before .before .before .next-after .ensures) _ (c .before .before .before .before .before .before .before .before .before .before .before .before .before .before .before .before .before .decimal-value2 .ensures) (c .before .before .before .before .before .before .before .before .before .before .before .before .before .before .before .f2 .given .1) (c .before .before .before .before .before .before .before .before .before .before .before .before .before .next-after2 .ensures) _ (c .before .before .before .before .before .before .before .before .before .before .before .before .decimal-value3 .ensures) (c .before .before .before .before .before .before .before .before .before .before .f3 .given .1) (c .before .before .before .before .before .before .before .before .next-after3 .ensures) _ (c .before .before .before .before .before .before .before .decimal-value4 .ensures) (c .before .before .before .before .before .f4 .given .1)) (refl, refl) (s .pre .1) fits (leaf .1)),

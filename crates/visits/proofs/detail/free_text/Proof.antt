@@ -1,5 +1,5 @@
 -- A free text: its record has the string's start and length, and the place of its quote.
-use mathlib.Core.Path.{refl}
+use mathlib.Core.Path.{refl, sym, _∙_}
 use native.Mathlib.Omega.{arith}
 use lib.ListN.{drop}
 use Rattle.document.specs.Posology as P
@@ -7,10 +7,11 @@ use Rattle.document.specs.Schema.{gives, aText, rowsOf, freeTextRows}
 use Rattle.document.specs.Visit.{entriesOf}
 use Rattle.fields.specs.Names.{nameAt, names}
 use Rattle.visits.specs.Visiting.{leftOf, DetailAt}
-use Rattle.visits.specs.Kept.{more}
+use Rattle.opening.specs.Records.{more}
 use Rattle.visits.proofs.Bodies.{object-at, body-unknown}
 use Rattle.visits.proofs.Detailed as D
 use Rattle.visits.proofs.Detailed.{begins, took, stopped, refused-in, refused-kept, done-kept}
+use Rattle.opening.proofs.Records.{stored}
 use borrow.Author.Needs.{needs}
 use Rattle.visits.proofs.detail.free_text.Statement.{statement}
 use Rattle.visits.proofs.detail.free_text.Tie as tie
@@ -93,7 +94,7 @@ returns-3 c =
           let begun = begins (D.free-text-known n) p (entriesOf ms) (a .room) (a .used) (s .pre .1) (a .text .now) (c .before .before .before .before .before .before .before .before .before .before .before .unknown-name .ensures refl p ms stands once) (c .before .before .before .before .before .before .before .before .before .enum-told .given .1) (object-at stands) in
           let string = D.text-is (a .text .now) (a .at) _ _ (c .before .before .before .before .before .before .before .before .text-field .ensures .0 (s .pre .2)) (once .slot 2 (omega arith)) (c .before .before .before .before .before .before .f .given .1) in
           D.free-text-did (a .text .now) (a .room) (a .used) (a .words .now) _ _ _ _ (string .size) (string .fits) (s .pre .3) (s .pre .1)
-          (took (drop (a .at) (a .text .now)) (entriesOf ms) l "text" aText (λ t. gives (P.freeText t)) begun (string .outcome l refl)) (c .before .before .before .put .ensures),
+          (took (drop (a .at) (a .text .now)) (entriesOf ms) l "text" aText (λ t. gives (P.freeText t)) begun (string .outcome l refl)) (c .before .before .before .put .ensures ∙ sym (stored _ _ _ (s .pre .0 .size) (s .pre .1))),
       done-kept refl (c .before .before .before .put .kept .0) (record { some = omega arith; few = omega arith }) (omega (arith, c .before .before .before .before .before .before .before .before .text-field .ensures .1 _ _ (c .before .before .before .before .before .before .f .given .1))),
     )
 

@@ -8,11 +8,12 @@ use Rattle.document.specs.Visit.{entriesOf}
 use Rattle.fields.specs.Names.{nameAt, names}
 use Rattle.visits.specs.Visiting.{leftOf, ObjectIn, ObjectRows}
 use Rattle.document.specs.Valid.{objectStrings}
-use Rattle.visits.specs.Kept.{more}
+use Rattle.opening.specs.Records.{more}
 use Rattle.visits.proofs.Bodies.{object-at, body-unknown}
 use Rattle.visits.proofs.Rowed.{leaf-did}
 use Rattle.visits.proofs.Detailed as D
 use Rattle.visits.proofs.Detailed.{begins, took, stopped, number-is, number-refused, refused-in, did-in, refused-kept, done-kept}
+use Rattle.opening.proofs.Records.{leaf-stores}
 use borrow.Author.Needs.{needs}
 use Rattle.visits.proofs.detail.pause.Statement.{statement}
 use Rattle.visits.proofs.detail.pause.Tie as tie
@@ -109,7 +110,7 @@ unfolding rowsOf pauseRows nameAt names ObjectRows objectStrings
 returns-4 c =
     let s = c .before .before .before .before .before .before .before .before .before .before .before .before .before .before .before .before .before .before .before in
     let a = s .args in
-    let leaf = c .before .before .leaf .ensures in (
+    let leaf = leaf-stores _ _ _ (s .pre .0 .size) (s .pre .1) (c .before .before .leaf .ensures) in (
       λ n room fits p ms stands once.
           let l = leftOf room (more (a .used)) in
           let begun = begins (D.pause-known n) p (entriesOf ms) room (a .used) (s .pre .1) (a .text .now) (c .before .before .before .before .before .before .before .before .before .before .before .before .before .before .unknown-name .ensures refl p ms stands once) (c .before .before .before .before .before .before .before .before .before .before .before .before .enum-told .given .1) (object-at stands) in

@@ -7,10 +7,11 @@ use Rattle.document.specs.Schema.{gives, anObject, aTimed, underSingle, rowsOf,
 use Rattle.document.specs.Visit.{entriesOf}
 use Rattle.fields.specs.Names.{nameAt, names}
 use Rattle.visits.specs.Visiting.{leftOf, DetailAt}
-use Rattle.visits.specs.Kept.{more}
+use Rattle.opening.specs.Records.{more}
 use Rattle.visits.proofs.Bodies.{object-at, body-unknown}
 use Rattle.visits.proofs.Detailed as D
 use Rattle.visits.proofs.Detailed.{begins, took, stopped, refused-in, did-in, refused-kept, done-kept}
+use Rattle.opening.proofs.Records.{above-stores, one-more}
 use borrow.Author.Needs.{needs}
 use Rattle.visits.proofs.detail.single.Statement.{statement}
 use Rattle.visits.proofs.detail.single.Tie as tie
@@ -46,7 +47,7 @@ one-more-requires c κs = search needs
 read-timed-requires : tie.Need-read-timed-requires
 read-timed-requires c κs =
     let s = c .before .before .before .before .before .before .before .before .before in
-    (D.ready-more (c .before .one-more .ensures) (s .pre .0) (s .pre .1), s .pre .2, omega arith)
+    (D.ready-more (one-more (s .pre .1) (c .before .one-more .ensures)) (s .pre .0) (s .pre .1), s .pre .2, omega arith)
 
 enum-known-r : tie.Need-enum-known-r
 enum-known-r c = search needs
@@ -65,16 +66,14 @@ returns-2 c =
       λ n room fits p ms stands once.
           let l = leftOf room (more (a .used)) in
           let begun = begins (D.single-known n) p (entriesOf ms) room (a .used) (s .pre .1) (a .text .now) (c .before .before .before .before .before .before .before .before .before .unknown-name .ensures refl p ms stands once) (c .before .before .before .before .before .before .before .enum-told .given .1) (object-at stands) in
-          let timed = D.timed-refused underSingle (a .text .now) (a .at) _ (a .used) (a .words .now) (c .before .before .before .before .read-timed .result) (c .before .before .before .before .read-timed .last .1 .1 .1 .1 .1 .0) (c .before .before .before .before .before .before .one-more .ensures) (c .before .before .before .before .read-timed .ensures .0) (once .slot 3 (omega arith)) room fits (c .enum-told2 .given .1) in
+          let timed = D.timed-refused underSingle (a .text .now) (a .at) _ (a .used) (a .words .now) (c .before .before .before .before .read-timed .result) (c .before .before .before .before .read-timed .last .1 .1 .1 .1 .1 .0) (one-more (s .pre .1) (c .before .before .before .before .before .before .one-more .ensures)) (c .before .before .before .before .read-timed .ensures .0) (once .slot 3 (omega arith)) room fits (c .enum-told2 .given .1) in
           refused-in (a .text .now) room (a .used) (a .words .now) (DetailAt (a .text .now)) _ _ _ (c .enum-told2 .given .1)
           (stopped (drop (a .at) (a .text .now)) (entriesOf ms) l "tdo" (anObject (aTimed underSingle)) (λ td. gives (P.single td)) begun (timed .0)) (timed .1),
       λ room fits. refused-kept (c .enum-told2 .given .1) (c .before .before .before .before .read-timed .ensures .1 .size),
     )
 
 above-requires : tie.Need-above-requires
-above-requires c κs =
-    let s = c .before .before .before .before .before .before .before .before .before .before .before .before .before .before .before .before in
-    (c .before .before .before .before .before .before .read-timed .kept .1 .1 .1 .1 .1 .0 ∙ s .pre .0 .size, s .pre .1, D.more-grown (c .before .before .before .before .before .before .before .before .one-more .ensures) (c .before .before .before .before .before .before .read-timed .ensures .1 .grown _ (c .before .before .r .given .1)))
+above-requires c κs = search needs
 
 same-length-2 : tie.Need-same-length-2
 same-length-2 c = search needs
@@ -84,16 +83,16 @@ unfolding rowsOf singleRows nameAt names
 returns-3 c =
     let s = c .before .before .before .before .before .before .before .before .before .before .before .before .before .before .before .before .before .before .before in
     let a = s .args in
-    let above = c .before .before .above .ensures in (
+    let above = above-stores _ _ _ (c .before .before .before .before .before .before .before .before .before .read-timed .ensures .1 .size ∙ s .pre .0 .size) (s .pre .1) (c .before .before .above .ensures) in (
       λ n room fits p ms stands once.
           let l = leftOf room (more (a .used)) in
           let begun = begins (D.single-known n) p (entriesOf ms) room (a .used) (s .pre .1) (a .text .now) (c .before .before .before .before .before .before .before .before .before .before .before .before .before .before .unknown-name .ensures refl p ms stands once) (c .before .before .before .before .before .before .before .before .before .before .before .before .enum-told .given .1) (object-at stands) in
-          let timed = D.timed-did underSingle (a .text .now) (a .at) _ (a .used) (a .words .now) (c .before .before .before .before .before .before .before .before .before .read-timed .result) (c .before .before .before .before .before .before .before .before .before .read-timed .last .1 .1 .1 .1 .1 .0) (c .before .before .before .before .before .before .before .before .before .before .before .one-more .ensures) (c .before .before .before .before .before .before .before .before .before .read-timed .ensures .0) (once .slot 3 (omega arith)) room fits (c .before .before .before .before .before .r .given .1) in
+          let timed = D.timed-did underSingle (a .text .now) (a .at) _ (a .used) (a .words .now) (c .before .before .before .before .before .before .before .before .before .read-timed .result) (c .before .before .before .before .before .before .before .before .before .read-timed .last .1 .1 .1 .1 .1 .0) (one-more (s .pre .1) (c .before .before .before .before .before .before .before .before .before .before .before .one-more .ensures)) (c .before .before .before .before .before .before .before .before .before .read-timed .ensures .0) (once .slot 3 (omega arith)) room fits (c .before .before .before .before .before .r .given .1) in
           did-in (a .text .now) room (a .used) (a .words .now) (DetailAt (a .text .now)) _ _ _ (above .0)
           (D.single-did (a .text .now) timed refl (took (drop (a .at) (a .text .now)) (entriesOf ms) l "tdo" (anObject (aTimed underSingle)) (λ td. gives (P.single td)) begun (timed .outcome)) (above .1)),
       λ room fits.
           let grown = c .before .before .before .before .before .before .before .before .before .read-timed .ensures .1 .grown _ (c .before .before .before .before .before .r .given .1) in
-          done-kept (above .0) (c .before .before .above .kept .0 ∙ c .before .before .before .before .before .before .before .before .before .read-timed .ensures .1 .size) (D.grown-as refl (D.grown-more (c .before .before .before .before .before .before .before .before .before .before .before .one-more .ensures) grown)) fits,
+          done-kept (above .0) (c .before .before .above .kept .0 ∙ c .before .before .before .before .before .before .before .before .before .read-timed .ensures .1 .size) (D.grown-as refl (D.grown-more (one-more (s .pre .1) (c .before .before .before .before .before .before .before .before .before .before .before .one-more .ensures)) grown)) fits,
     )
 
 pub single-spec : {M : Type 1} → statement M

@@ -6,10 +6,11 @@ use lib.ListN.{length, length-set}
 use Rattle.document.specs.Visit.{entriesOf}
 use Rattle.document.specs.Words.{words}
 use Rattle.visits.specs.Visiting.{leftOf}
-use Rattle.visits.specs.Kept.{more}
+use Rattle.opening.specs.Records.{more}
 use Rattle.visits.proofs.Rowed.{leaf-did, kept-refused, kept-done}
 use Rattle.visits.proofs.Bodies.{object-at, body-opens, body-unknown, refuses-as, refuses-bind, done-bind, guard-holds, guard-fails, reads-done, reads-refused}
 use Rattle.visits.proofs.Known.{from-to-known, from-to-fields}
+use Rattle.opening.proofs.Records.{leaf-stores}
 use borrow.Author.Needs.{needs}
 use Rattle.visits.proofs.dosage.from_to.Statement.{statement}
 use Rattle.visits.proofs.dosage.from_to.Tie as tie
@@ -182,7 +183,7 @@ returns-6 c =
     )
 
 leaf-requires : tie.Need-leaf-requires
-leaf-requires c κs = let s = c .before .before .before .before .before .before .before .before .before .before .before .before .before .before .before .before .before .before .before .before .before .before .before .before .before in (s .pre .0 .size, s .pre .1)
+leaf-requires c κs = search needs
 
 same-length : tie.Need-same-length
 same-length c = search needs
@@ -190,7 +191,7 @@ same-length c = search needs
 returns-7 : tie.Need-returns-7
 returns-7 c =
     let s = c .before .before .before .before .before .before .before .before .before .before .before .before .before .before .before .before .before .before .before .before .before .before .before .before .before .before .before .before in
-    let kept = c .before .before .leaf .ensures in (
+    let kept = leaf-stores _ _ _ (s .pre .0 .size) (s .pre .1) (c .before .before .leaf .ensures) in (
       λ room p ms a once fits.
           rw (kept .0, object-at a)
           (leaf-did _ (words 0 13 _ _ _ _)

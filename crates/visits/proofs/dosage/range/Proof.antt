@@ -6,10 +6,11 @@ use lib.ListN.{length, length-set}
 use Rattle.document.specs.Visit.{entriesOf}
 use Rattle.document.specs.Words.{words}
 use Rattle.visits.specs.Visiting.{leftOf}
-use Rattle.visits.specs.Kept.{more}
+use Rattle.opening.specs.Records.{more}
 use Rattle.visits.proofs.Rowed.{leaf-did, kept-refused, kept-done}
 use Rattle.visits.proofs.Bodies.{object-at, body-opens, body-unknown, refuses-as, refuses-bind, done-bind, guard-holds, guard-fails, reads-done, reads-refused}
 use Rattle.visits.proofs.Known.{range-known, range-fields}
+use Rattle.opening.proofs.Records.{leaf-stores}
 use borrow.Author.Needs.{needs}
 use Rattle.visits.proofs.dosage.range.Statement.{statement}
 use Rattle.visits.proofs.dosage.range.Tie as tie
@@ -115,7 +116,7 @@ returns-4 c =
     )
 
 leaf-requires : tie.Need-leaf-requires
-leaf-requires c κs = let s = c .before .before .before .before .before .before .before .before .before .before .before .before .before .before .before .before .before in (s .pre .0 .size, s .pre .1)
+leaf-requires c κs = search needs
 
 same-length : tie.Need-same-length
 same-length c = search needs
@@ -123,7 +124,7 @@ same-length c = search needs
 returns-5 : tie.Need-returns-5
 returns-5 c =
     let s = c .before .before .before .before .before .before .before .before .before .before .before .before .before .before .before .before .before .before .before .before in
-    let kept = c .before .before .leaf .ensures in (
+    let kept = leaf-stores _ _ _ (s .pre .0 .size) (s .pre .1) (c .before .before .leaf .ensures) in (
       λ room p ms a once fits.
           rw (kept .0, object-at a)
           (leaf-did _ (words 0 14 _ _ 0 0)

@@ -3,9 +3,10 @@ use mathlib.Core.Path.{refl}
 use native.Mathlib.Omega.{arith}
 use Rattle.document.specs.Schema.{aDosage}
 use Rattle.visits.specs.Visiting.{leftOf, DosageRows}
-use Rattle.visits.specs.Kept.{more}
+use Rattle.opening.specs.Records.{more}
 use Rattle.visits.proofs.Rowed.{visited-as, kept-refused}
 use Rattle.visits.proofs.Bodies.{finds-child, finds-refused}
+use Rattle.opening.proofs.Records.{one-more}
 use borrow.Author.Needs.{needs}
 use Rattle.visits.proofs.dosage.read_below.Statement.{statement}
 use Rattle.visits.proofs.dosage.read_below.Tie as tie
@@ -36,7 +37,7 @@ one-more-requires c κs = search needs
 read-dosage-requires : tie.Need-read-dosage-requires
 read-dosage-requires c κs =
     let s = c .before .before .before .before .before .before .before .before in
-    rw (c .before .one-more .ensures) (record { size = s .pre .0 .size; few = omega (arith, s .pre .1) }, omega (arith, c .before .before .before .before .before .object-field .ensures .1 _ (c .before .before .before .f .given .1)))
+    rw (one-more (s .pre .1) (c .before .one-more .ensures)) (record { size = s .pre .0 .size; few = omega (arith, s .pre .1) }, omega (arith, c .before .before .before .before .before .object-field .ensures .1 _ (c .before .before .before .f .given .1)))
 
 same-length : tie.Need-same-length
 same-length c = search needs
@@ -44,7 +45,7 @@ same-length c = search needs
 returns-2 : tie.Need-returns-2
 returns-2 c =
     let s = c .before .before .before .before .before .before .before .before .before .before .before in
-    let k = rw (c .before .before .before .before .one-more .ensures) at (c .before .before .read-dosage .ensures) in (
+    let k = rw (one-more (s .pre .1) (c .before .before .before .before .one-more .ensures)) at (c .before .before .read-dosage .ensures) in (
       λ room f slot fits.
           let x = finds-child _ _ (c .before .before .before .before .before .before .before .before .object-field .ensures .0 (s .pre .2) f slot) (c .before .before .before .before .before .before .f .given .1) in
           visited-as (s .args .text .now) room (more (s .args .used)) (s .args .words .now) DosageRows (c .before .before .read-dosage .result) (c .before .before .read-dosage .last .1 .1 .1 .0) (x .outcome aDosage (leftOf room (more (s .args .used)))) (k .0 room (x .place) (x .inner) (x .stands) fits),

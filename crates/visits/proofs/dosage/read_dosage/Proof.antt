@@ -19,7 +19,7 @@ open-typed-requires c κs = search needs
 returns : tie.Need-returns
 returns c =
     let s = c .before .before .before .before in (
-      λ room p ms a fits. rw (object-at a) (c .before .open-typed .ensures p ms a .refused (c .if1 .taken) aDosage refl (leftOf room (s .args .used)), refl),
+      λ room p ms a fits. rw (object-at a) (c .before .open-typed .ensures (omega arith) p ms a .refused (c .if1 .taken) aDosage refl (leftOf room (s .args .used)), refl),
       kept-refused 1 (s .args .used) refl refl,
     )
 
@@ -31,7 +31,7 @@ returns-2 c =
     let s = c .before .before .before .before .before .before in (
       λ room p ms a fits.
           rw (object-at a) (
-            refuses-as (c .before .before .before .open-typed .ensures p ms a .opened (c .before .before .if1 .left) aDosage refl (leftOf room (s .args .used)))
+            refuses-as (c .before .before .before .open-typed .ensures (omega arith) p ms a .opened (c .before .before .if1 .left) aDosage refl (leftOf room (s .args .used)))
                 (body-full aDosage (c .before .before .before .open-typed .result .kind) (bytes "t" ∷ []) _ (entriesOf ms) room (s .args .used) refl (leb-true _ _ (sym (c .before .is-full .ensures) ∙ c .if2 .taken)) (s .args .at) refl (s .pre .1)),
             refl,
           ),
@@ -54,7 +54,7 @@ returns-3 : tie.Need-returns-3
 returns-3 c =
     let s = c .before .before .before .before .before .before .before .before .before .before .before in (
       λ room p ms a fits.
-          let o = c .before .before .before .before .before .before .before .before .open-typed .ensures p ms a in
+          let o = c .before .before .before .before .before .before .before .before .open-typed .ensures (omega arith) p ms a in
           visited-as (s .args .text .now) room (s .args .used) (s .args .words .now) DosageRows (c .before .before .simple .result) (c .before .before .simple .last .1 .1 .1 .1 .0) (typed-as o aDosage 1 p (leftOf room (s .args .used)) refl (c .before .before .before .before .before .before .before .if1 .left) (c .before .before .before .before .match .keys1) refl refl (object-at a))
           (c .before .before .simple .ensures .0 room p ms a (o .settled (c .before .before .before .before .before .before .before .if1 .left)) fits),
       c .before .before .simple .ensures .1,
@@ -67,7 +67,7 @@ returns-4 : tie.Need-returns-4
 returns-4 c =
     let s = c .before .before .before .before .before .before .before .before .before .before .before in (
       λ room p ms a fits.
-          let o = c .before .before .before .before .before .before .before .before .open-typed .ensures p ms a in
+          let o = c .before .before .before .before .before .before .before .before .open-typed .ensures (omega arith) p ms a in
           visited-as (s .args .text .now) room (s .args .used) (s .args .words .now) DosageRows (c .before .before .from-to .result) (c .before .before .from-to .last .1 .1 .1 .1 .0) (typed-as o aDosage 2 p (leftOf room (s .args .used)) refl (c .before .before .before .before .before .before .before .if1 .left) (c .before .before .before .before .match .keys2) refl refl (object-at a))
           (c .before .before .from-to .ensures .0 room p ms a (o .settled (c .before .before .before .before .before .before .before .if1 .left)) fits),
       c .before .before .from-to .ensures .1,
@@ -80,7 +80,7 @@ returns-5 : tie.Need-returns-5
 returns-5 c =
     let s = c .before .before .before .before .before .before .before .before .before .before .before in (
       λ room p ms a fits.
-          let o = c .before .before .before .before .before .before .before .before .open-typed .ensures p ms a in
+          let o = c .before .before .before .before .before .before .before .before .open-typed .ensures (omega arith) p ms a in
           visited-as (s .args .text .now) room (s .args .used) (s .args .words .now) DosageRows (c .before .before .range .result) (c .before .before .range .last .1 .1 .1 .1 .0) (typed-as o aDosage 3 p (leftOf room (s .args .used)) refl (c .before .before .before .before .before .before .before .if1 .left) ((omega (arith, o .kind (c .before .before .before .before .before .before .before .if1 .left) .0, o .kind (c .before .before .before .before .before .before .before .if1 .left) .1, c .before .before .before .before .match .rest .0 .1, c .before .before .before .before .match .rest .1))) refl refl (object-at a))
           (c .before .before .range .ensures .0 room p ms a (o .settled (c .before .before .before .before .before .before .before .if1 .left)) fits),
       c .before .before .range .ensures .1,

@@ -1,11 +1,12 @@
 use mathlib.Core.Path.{refl, ap, _∙_}
 use native.Mathlib.Omega.{arith}
+use Rattle.opening.proofs.Records.{leaf-stores}
 use borrow.Author.Needs.{needs}
 use lib.ListN.{length, length-set}
 use Rattle.document.specs.Visit.{entriesOf}
 use Rattle.document.specs.Words.{words}
 use Rattle.visits.specs.Visiting.{leftOf}
-use Rattle.visits.specs.Kept.{more}
+use Rattle.opening.specs.Records.{more}
 use Rattle.visits.proofs.Rowed.{leaf-did, kept-refused, kept-done}
 use Rattle.visits.proofs.Bodies.{object-at, body-opens, body-unknown, refuses-as, refuses-bind, done-bind, reads-done, reads-refused}
 use Rattle.visits.proofs.Known.{simple-known, simple-fields}
@@ -71,7 +72,7 @@ same-length c = search needs
 returns-3 : tie.Need-returns-3
 returns-3 c =
     let s = c .before .before .before .before .before .before .before .before .before .before .before .before .before .before .before in
-    let kept = c .before .before .leaf .ensures in (
+    let kept = leaf-stores _ _ _ (s .pre .0 .size) (s .pre .1) (c .before .before .leaf .ensures) in (
       λ room p ms a once fits.
           rw (kept .0, object-at a)
           (leaf-did _ (words 0 12 _ 0 0 0)

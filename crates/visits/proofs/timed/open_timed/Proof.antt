@@ -1,11 +1,13 @@
 -- `visits::timed::open_timed` meets its contract: a timed dosage as far as its type, 10 and 15.
 use mathlib.Core.Path.{refl, sym, _∙_}
+use native.Mathlib.Omega.{arith}
 use borrow.Author.Tests.{leb-true, leb-false, not-true, not-false}
 use mathlib.Core.List.{[], _∷_}
 use Rattle.document.specs.Bytes.{bytes}
 use Rattle.document.specs.Schema.{aTimed}
 use Rattle.document.specs.Visit.{entriesOf}
-use Rattle.visits.specs.Visiting.{leftOf, typesUnder}
+use Rattle.opening.specs.Under.{typesUnder}
+use Rattle.visits.specs.Visiting.{leftOf}
 use Rattle.visits.proofs.Bodies.{refuses-as, typed-as, body-full}
 use Rattle.visits.proofs.Under.{under-refused, under-opened, stands-refused, stands-nowhere}
 use borrow.Author.Needs.{needs}
@@ -18,7 +20,7 @@ open-typed-requires c κs = search needs
 returns : tie.Need-returns
 returns c =
     let s = c .before .before .before in (
-      λ p ms a. under-refused (c .if1 .taken) (λ room. c .before .open-typed .ensures p ms a .refused (c .if1 .taken) (aTimed (typesUnder (s .args .parent))) refl (leftOf room (s .args .used))),
+      λ p ms a. under-refused (c .if1 .taken) (λ room. c .before .open-typed .ensures (omega arith) p ms a .refused (c .if1 .taken) (aTimed (typesUnder (s .args .parent))) refl (leftOf room (s .args .used))),
       stands-refused _ _ (c .if1 .taken),
     )
 
@@ -39,7 +41,7 @@ returns-2 c =
           under-refused (told .0)
           (λ room.
           rw (told .1, told .2)
-          (stands-nowhere (s .args .parent) (leftOf room (s .args .used)) (c .before .before .before .before .before .open-typed .ensures p ms a) (c .before .before .before .before .if1 .left) (sym (c .before .before .is-allowed .ensures) ∙ not-true _ (c .before .if2 .taken)))),
+          (stands-nowhere (s .args .parent) (leftOf room (s .args .used)) (c .before .before .before .before .before .open-typed .ensures (omega arith) p ms a) (c .before .before .before .before .if1 .left) (sym (c .before .before .is-allowed .ensures) ∙ not-true _ (c .before .if2 .taken)))),
       stands-refused _ _ (told .0),
     )
 
@@ -58,7 +60,7 @@ returns-3 c =
           under-refused (told .0)
           (λ room.
           rw (told .1, told .2)
-          (refuses-as (typed-as (c .before .before .before .before .before .before .before .open-typed .ensures p ms a) (aTimed (typesUnder (s .args .parent))) _ _ (leftOf room (s .args .used)) refl (c .before .before .before .before .before .before .if1 .left) refl stand refl refl)
+          (refuses-as (typed-as (c .before .before .before .before .before .before .before .open-typed .ensures (omega arith) p ms a) (aTimed (typesUnder (s .args .parent))) _ _ (leftOf room (s .args .used)) refl (c .before .before .before .before .before .before .if1 .left) refl stand refl refl)
           (body-full (aTimed (typesUnder (s .args .parent))) (c .before .before .before .before .before .before .before .open-typed .result .kind) (bytes "t" ∷ []) _ (entriesOf ms) room (s .args .used) refl (leb-true _ _ (sym (c .before .before .is-full .ensures) ∙ c .before .if3 .taken)) (s .args .at) refl (s .pre .1)))),
       stands-refused _ _ (told .0),
     )
@@ -67,7 +69,7 @@ returns-4 : tie.Need-returns-4
 returns-4 c =
     let stand = sym (c .before .before .before .is-allowed .ensures) ∙ not-false _ (c .before .before .if2 .left) in
     let few = leb-false _ _ (sym (c .before .is-full .ensures) ∙ c .if3 .left) in
-    (λ p ms a. under-opened (c .before .before .before .before .before .before .open-typed .ensures p ms a) (c .before .before .before .before .before .if1 .left) stand few, record { kind = λ _. stand; few = λ _. few })
+    (λ p ms a. under-opened (c .before .before .before .before .before .before .open-typed .ensures (omega arith) p ms a) (c .before .before .before .before .before .if1 .left) stand few, record { kind = λ _. stand; few = λ _. few })
 
 pub open-timed-spec : {M : Type 1} → statement M
 open-timed-spec =

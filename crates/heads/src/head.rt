@@ -1,0 +1,309 @@
+// The head of a posology (document 01, "Objects": Posology).
+use document::table::Date;
+use fields::date;
+use fields::field;
+use fields::field::DateField;
+use fields::field::Field;
+use fields::field::Worded;
+use fields::names;
+use fields::names::APPL_INSTR;
+use fields::names::DT_FROM;
+use fields::names::DT_TO;
+use fields::names::IN_RES;
+use fields::names::MOA;
+use fields::names::NAMES;
+use fields::names::PO;
+use fields::names::REL_MEAL;
+use fields::names::ROA;
+use fields::names::UNIT;
+use fields::names::Unknown;
+use opening::opened;
+use opening::rows::Used;
+use opening::rows::Visit;
+use opening::rows::WORDS;
+use visits::detail;
+ghost use mathlib.Core.Path.{_≡_};
+ghost use Prim.Native.Nat.{ℕ, _≤_};
+ghost use lib.Dec.{eqb};
+ghost use lib.ListN.{length};
+ghost use Rattle.heads.specs.HeadRows.{noPiece, pieceAt, ReadsUnit, ReadsStrings, ReadsFromDetail};
+ghost use Rattle.heads.specs.Heads.{RefusedAt, ReadsHead, AnswersHead};
+ghost use Rattle.fields.specs.Fields.{Within};
+
+const POSOLOGY: [usize; 9] = [
+    DT_FROM,
+    DT_TO,
+    IN_RES,
+    PO,
+    REL_MEAL,
+    UNIT,
+    APPL_INSTR,
+    ROA,
+    MOA,
+];
+
+// A string of the head: its quote in the text, and its bytes in the buffer to come.
+pub struct Piece {
+    pub quote: usize,
+    pub start: usize,
+    pub len: usize,
+}
+
+// A head as it is read, or the refusal.
+pub struct HeadRead {
+    pub refused: bool,
+    pub number: u8,
+    pub place: usize,
+    pub from: Date,
+    pub to: Date,
+    pub reserve: bool,
+    pub meal: u8,
+    pub unit: Piece,
+    pub instructions: Piece,
+    pub roa: Piece,
+    pub moa: Piece,
+    pub used: Used,
+}
+
+fn no_piece() -> Piece
+    ensures { λ r. ⌜ r ≡ noPiece ⌝ }
+{
+    Piece {
+        quote: 0,
+        start: 0,
+        len: 0,
+    }
+}
+
+pub fn refused(number: u8, place: usize) -> HeadRead
+    ensures { λ r. ⌜ RefusedAt r number place ⌝ }
+{
+    let p = no_piece();
+    HeadRead {
+        refused: true,
+        number: number,
+        place: place,
+        from: Date::Absent,
+        to: Date::Absent,
+        reserve: false,
+        meal: 0,
+        unit: p,
+        instructions: p,
+        roa: p,
+        moa: p,
+        used: Used {
+            records: 0,
+            text: 0,
+        },
+    }
+}
+
+fn up_date(f: DateField) -> HeadRead
+    ensures { λ r. ⌜ ((n p : ℕ) → f ≡ DateField.Refused n p → RefusedAt r n p) ⌝ }
+{
+    match f {
+        DateField::Is(_) => refused(0, 0),
+        DateField::Refused(n, p) => refused(n, p),
+    }
+}
+
+fn up_field(f: Field) -> HeadRead
+    ensures { λ r. ⌜ ((n p : ℕ) → f ≡ Field.Refused n p → RefusedAt r n p) ⌝ }
+{
+    match f {
+        Field::Is(_) => refused(0, 0),
+        Field::Refused(n, p) => refused(n, p),
+    }
+}
+
+fn up_visit(r: Visit) -> HeadRead
+    ensures { λ h. ⌜ ((n p : ℕ) → r ≡ Visit.Refused n p → RefusedAt h n p) ⌝ }
+{
+    match r {
+        Visit::Done(_) => refused(0, 0),
+        Visit::Refused(n, p) => refused(n, p),
+    }
+}
+
+fn up_worded(f: Worded) -> HeadRead
+    ensures { λ r. ⌜ ((n p : ℕ) → f ≡ Worded.Refused n p → RefusedAt r n p) ⌝ }
+{
+    match f {
+        Worded::Is(_, _) => refused(0, 0),
+        Worded::Refused(n, p) => refused(n, p),
+    }
+}
+
+// An absent string has start 0.
+fn piece_at(quote: usize, start: usize, len: usize) -> Piece
+    ensures { λ r. ⌜ r ≡ pieceAt quote start len ⌝ }
+{
+    if len == 0 {
+        return no_piece();
+    }
+    Piece {
+        quote: quote,
+        start: start,
+        len: len,
+    }
+}
+
+// "unit (optional for use 3)"
+fn unit_field(text: &[u8], brace: usize, v: usize, purpose: u64, room: usize) -> Worded
+    requires { ⌜ brace ≤ length (now text) ⌝ }
+    ensures { λ r. ⌜ ReadsUnit (eqb purpose 3) (now (text .entry)) brace v room r ⌝ }
+    ensures { λ r. ⌜ Within room r ⌝ }
+{
+    if purpose == 3 {
+        return field::optional_text(text, v, room);
+    }
+    field::text_field(text, brace, v, room)
+}
+
+// The strings of the head, behind `used`; then the dates' order (12).
+fn with_strings(
+    text: &[u8],
+    at: usize,
+    slots: [usize; NAMES],
+    purpose: u64,
+    room: usize,
+    h: HeadRead,
+) -> HeadRead
+    requires { ⌜ (at ≤ length (now text)) × (h .used .text ≤ room) ⌝ }
+    ensures { λ r. ⌜ ReadsStrings purpose (now (text .entry)) at slots room h r ⌝ }
+{
+    let a = h.used.text;
+    let f = unit_field(text, at, slots[UNIT], purpose, room - a);
+    let Worded::Is(unit, n) = f else {
+        return up_worded(f);
+    };
+    let b = a + n;
+    let f = field::optional_text(text, slots[APPL_INSTR], room - b);
+    let Worded::Is(instructions, m) = f else {
+        return up_worded(f);
+    };
+    let c = b + m;
+    let f = field::optional_text(text, slots[ROA], room - c);
+    let Worded::Is(roa, k) = f else {
+        return up_worded(f);
+    };
+    let d = c + k;
+    let f = field::optional_text(text, slots[MOA], room - d);
+    let Worded::Is(moa, l) = f else {
+        return up_worded(f);
+    };
+    let from = h.from;
+    let to = h.to;
+    if !date::in_order(from, to) {
+        return refused(12, at);
+    }
+    HeadRead {
+        refused: false,
+        number: 0,
+        place: 0,
+        from: from,
+        to: to,
+        reserve: h.reserve,
+        meal: h.meal,
+        unit: piece_at(unit, a, n),
+        instructions: piece_at(instructions, b, m),
+        roa: piece_at(roa, c, k),
+        moa: piece_at(moa, d, l),
+        used: Used {
+            records: h.used.records,
+            text: d + l,
+        },
+    }
+}
+
+// The detail and the meal code, behind the dates and the reserve mark.
+fn with_detail(
+    text: &[u8],
+    at: usize,
+    slots: [usize; NAMES],
+    purpose: u64,
+    room: usize,
+    from: Date,
+    to: Date,
+    reserve: bool,
+    words: &mut [u64],
+) -> HeadRead
+    requires { ⌜ (length (now words) ≡ 384) × (at ≤ length (now text)) ⌝ }
+    ensures { λ r. ⌜ ReadsFromDetail purpose (now (text .entry)) at slots room from to reserve r (now (words .exit)) ⌝ }
+{
+    let r = detail::read_po(text, at, slots[PO], room, words);
+    let Visit::Done(used) = r else {
+        return up_visit(r);
+    };
+    let f = field::optional_integer(text, slots[REL_MEAL], 1, 6, 0);
+    let Field::Is(meal) = f else {
+        return up_field(f);
+    };
+    let p = no_piece();
+    let h = HeadRead {
+        refused: false,
+        number: 0,
+        place: 0,
+        from: from,
+        to: to,
+        reserve: reserve,
+        meal: (meal % 256) as u8,
+        unit: p,
+        instructions: p,
+        roa: p,
+        moa: p,
+        used: used,
+    };
+    with_strings(text, at, slots, purpose, room, h)
+}
+
+// The posology whose brace stands at `at`.
+fn head_at(text: &[u8], at: usize, purpose: u64, room: usize, words: &mut [u64]) -> HeadRead
+    requires { ⌜ (length (now words) ≡ 384) × (at ≤ length (now text)) ⌝ }
+    ensures { λ r. ⌜ ReadsHead purpose room (now (text .entry)) at r (now (words .exit)) ⌝ }
+{
+    let o = opened::open_plain(text, at);
+    if o.refused {
+        return refused(o.number, o.place);
+    }
+    let slots = o.slots;
+    if let Unknown::At(q) = names::unknown_name(text, at, o.members, slots, &POSOLOGY) {
+        return refused(5, q);
+    }
+    let f = field::date_field(text, slots[DT_FROM]);
+    let DateField::Is(from) = f else {
+        return up_date(f);
+    };
+    let f = field::date_field(text, slots[DT_TO]);
+    let DateField::Is(to) = f else {
+        return up_date(f);
+    };
+    let f = field::flag_field(text, slots[IN_RES]);
+    let Field::Is(reserve) = f else {
+        return up_field(f);
+    };
+    with_detail(
+        text,
+        at,
+        slots,
+        purpose,
+        room,
+        from,
+        to,
+        reserve == 1,
+        words,
+    )
+}
+
+// The same for whatever is lent: words of another number, or a place behind the text, are refused with 0.
+pub fn read_head(text: &[u8], at: usize, purpose: u64, room: usize, words: &mut [u64]) -> HeadRead
+    ensures { λ r. ⌜ AnswersHead purpose room (now (text .entry)) at (now (words .entry)) r (now (words .exit)) ⌝ }
+{
+    if words.len() != WORDS {
+        return refused(0, 0);
+    }
+    if text.len() < at {
+        return refused(0, 0);
+    }
+    head_at(text, at, purpose, room, words)
+}

@@ -1,0 +1,2 @@
+// The head of a posology, read around its detail.
+pub mod head;
