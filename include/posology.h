@@ -9,7 +9,7 @@
  *   - no pointer is NULL, not even where the length beside it is 0, and each leads to as many bytes as that length says; `place` is
  *     aligned as a uint64_t is;
  *   - a buffer that is written (`strings`, `table`, `out`, `*place`) shares no byte with any other buffer of the call;
- *   - the calling thread has 64 KB of stack left (43 KB is the most that was seen used: measured, not proved).
+ *   - the calling thread has 64 KB of stack left (32 KB is the most that was seen used: measured, not proved).
  *
  * Nothing else is asked. Any bytes may be in any buffer, a length may be any, and a use, too, is tested.
  */
