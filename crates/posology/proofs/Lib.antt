@@ -1,4 +1,4 @@
 -- What the proofs of several functions use.
 mod Standing
 pub mod Answers
-pub mod Prefixes
+mod Runs

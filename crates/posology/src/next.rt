@@ -3,20 +3,17 @@ use crate::reader;
 use building::WORDS;
 use document::table::NextAnswer;
 use document::table::NextReading;
-use document::uses::is_use;
 use heads::head;
 use heads::head::HeadRead;
-use walk::End;
+use texts::FirstText;
 ghost use mathlib.Core.Path.{_≡_};
 ghost use mathlib.Core.List.{List};
 ghost use Prim.Native.Nat.{ℕ};
-ghost use lib.ListN.{length, take};
-ghost use Rattle.document.specs.Answer.{ReadsNext, refusedAt, nextReading, nextBufferAfter, notEnded, upTo, readWalked, textAtMost};
+ghost use lib.ListN.{length};
+ghost use Rattle.document.specs.Answer.{ReadsNext, refusedAt, nextReading, nextBufferAfter, upTo, readWalked};
 ghost use Rattle.document.specs.Valid.{roomOf};
 ghost use Rattle.posology.specs.Reader.{Walked};
 ghost use Rattle.posology.specs.Next.{nextReadingOf, ReadsNextWords};
-
-const LONGEST: usize = 32768;
 
 // The answer, and where a posology is taken its head and the words of its records.
 pub struct NextWords {
@@ -34,29 +31,6 @@ fn refused(number: u8, place: usize) -> NextWords
         },
         head: head::refused(number, place),
     }
-}
-
-// The first 32,768 bytes of a run, in which a text must end.
-fn begun(run: &[u8]) -> &[u8]
-    ensures { λ r. ⌜ now r ≡ take textAtMost (now (run .entry)) ⌝ }
-{
-    if run.len() <= LONGEST {
-        return run;
-    }
-    &run[..LONGEST]
-}
-
-// No text ends in the first 32,768 bytes, and they are walked up to p.
-fn not_ended(run: &[u8], p: usize) -> NextWords
-    ensures { λ r. ⌜ ((ws : List ℕ) → nextReadingOf r ws ≡ nextReading (notEnded 2 (now (run .entry)) p)) ⌝ }
-{
-    if p < LONGEST {
-        return refused(2, p);
-    }
-    if LONGEST < run.len() {
-        return refused(1, LONGEST);
-    }
-    refused(2, p)
 }
 
 // The text that ends at e: reading it looks no further.
@@ -90,19 +64,13 @@ pub fn next_words(
 ) -> NextWords
     ensures { λ r. ⌜ ReadsNextWords purpose (now (run .entry)) (now (strings .entry)) r (now (words .exit)) (now (strings .exit)) ⌝ }
 {
-    if !is_use(purpose) {
-        return refused(17, 0);
-    }
-    if run.len() <= scan::byte::blanks_end(run, 0) {
-        return NextWords {
-            answer: NextAnswer::Blank { length: run.len() },
+    match texts::first_text(run, purpose) {
+        FirstText::Ends(e) => taken(run, e, purpose, strings, words),
+        FirstText::Blank(length) => NextWords {
+            answer: NextAnswer::Blank { length: length },
             head: head::refused(0, 0),
-        };
-    }
-    match walk::first_object(begun(run)) {
-        End::At(e) => taken(run, e, purpose, strings, words),
-        End::Bad(p) => not_ended(run, p),
-        End::Deep(p) => refused(3, p),
+        },
+        FirstText::Refused(number, place) => refused(number, place),
     }
 }
 

@@ -8,19 +8,16 @@ use document::table::Reading;
 use document::table::Record;
 use document::table::Table;
 use document::table::Text;
-use document::uses::is_use;
 use heads::head;
 use heads::head::HeadRead;
 use opening::rows::RECORDS;
-use walk::End;
+use texts::OneText;
 ghost use mathlib.Core.Path.{_≡_};
 ghost use lib.ListN.{length};
 ghost use Rattle.document.specs.Answer.{Reads, reading, readWalked, bufferAfter};
 ghost use Rattle.document.specs.Table.{emptyTable, noText};
 ghost use Rattle.document.specs.Valid.{roomOf};
 ghost use Rattle.posology.specs.Reader.{Walked, readingOf, ReadsWords};
-
-const LONGEST: usize = 32768;
 
 const ROOM: usize = 2048;
 
@@ -92,16 +89,9 @@ pub fn read_words(
 ) -> HeadRead
     ensures { λ r. ⌜ ReadsWords purpose (now (text .entry)) (now (strings .entry)) r (now (words .exit)) (now (strings .exit)) ⌝ }
 {
-    if !is_use(purpose) {
-        return head::refused(17, 0);
-    }
-    if LONGEST < text.len() {
-        return head::refused(1, LONGEST);
-    }
-    match walk::one_object(text) {
-        End::At(_) => walked_words(text, purpose, strings, words),
-        End::Bad(p) => head::refused(2, p),
-        End::Deep(p) => head::refused(3, p),
+    match texts::one_text(text, purpose) {
+        OneText::Walked => walked_words(text, purpose, strings, words),
+        OneText::Refused(number, place) => head::refused(number, place),
     }
 }
 

@@ -1,5 +1,5 @@
 -- The reading, by its answer.
-use Rattle.posology.proofs.Prefixes.{of-answer}
+use Rattle.posology.proofs.Runs.{of-answer}
 use borrow.Author.Needs.{needs}
 use Rattle.posology.proofs.next.reading_of.Statement.{statement}
 use Rattle.posology.proofs.next.reading_of.Tie as tie

@@ -3,7 +3,7 @@ use mathlib.Core.Path.{_∙_}
 use lib.ListN.{length}
 use Rattle.document.specs.Answer.{readWalked}
 use Rattle.document.specs.Valid.{roomOf}
-use Rattle.posology.proofs.Prefixes.{next-taken, next-refused, next-leaves}
+use Rattle.posology.proofs.Runs.{next-taken, next-refused, next-leaves}
 use borrow.Author.Needs.{needs}
 use Rattle.posology.proofs.next.taken.Statement.{statement}
 use Rattle.posology.proofs.next.taken.Tie as tie

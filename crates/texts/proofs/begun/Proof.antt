@@ -3,10 +3,10 @@ use mathlib.Core.Path.{sym}
 use native.Mathlib.Omega.{arith}
 use lib.Seq.{take-all}
 use Rattle.document.specs.Answer.{textAtMost}
-use Rattle.posology.proofs.Prefixes.{length-first}
+use Rattle.texts.proofs.Prefixes.{length-first}
 use borrow.Author.Needs.{needs}
-use Rattle.posology.proofs.next.begun.Statement.{statement}
-use Rattle.posology.proofs.next.begun.Tie as tie
+use Rattle.texts.proofs.begun.Statement.{statement}
+use Rattle.texts.proofs.begun.Tie as tie
 
 returns : tie.Need-returns
 returns c = sym (take-all textAtMost (c .before .args .run .now) (c .if1 .taken))

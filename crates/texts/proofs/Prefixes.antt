@@ -1,29 +1,18 @@
--- The walk over the first bytes of a run tells what the walk over all of it comes to, and so what reading the run's first posology does.
+-- The walk over the first bytes of a run tells what the walk over all of it comes to, and so where the run's first text ends.
 use Prim.Native.Nat.{ℕ, zero, suc, _≤_, _<_, _-_}
 use mathlib.Core.Path.{_≡_, refl, sym, ap, _∙_}
 use mathlib.Core.List.{List, [], _∷_, _++_}
-use mathlib.Core.Bool.{Bool, true, false, cond, not, _||_, or-true}
+use mathlib.Core.Bool.{Bool, true, false, or-true}
 use native.Mathlib.Omega.{arith}
 use lib.ListN.{length, take, drop, take-append-drop, drop-of-length-le, length-drop, length-append}
 use lib.Seq.{drop-cons, drop-append-le, take-all}
 use lib.Dec.{leb, ltb}
-use borrow.Author.Tests.{ltb-true, ltb-false, leb-true, leb-false, le-leb, lt-leb, lt-ltb, le-ltb, not-true, not-false}
-use Rattle.json.specs.Byte.{blanked}
-use Rattle.json.specs.Tree.{placeIn, Moves}
+use borrow.Author.Tests.{ltb-true, ltb-false, leb-true, leb-false, le-leb, lt-leb, lt-ltb, le-ltb}
+use Rattle.json.specs.Tree.{placeIn}
 use Rattle.json.specs.Walk.{Frame, Mode, top, Next, wrong, deep, ended, go, onto, step, walk, Walked, end, refused2, refused3, firstObject}
-use Rattle.document.specs.Answer.{textAtMost, Read, taken, refused, reading, bufferAfter, ReadNext, blankTo, refusedAt, upTo, notEnded, readWalked, nextWalked, readNext, nextReading, nextBufferAfter}
-use Rattle.document.specs.Valid.{isUse, roomOf}
-use Rattle.document.specs.declared.table.Reading.{Reading}
-use Rattle.document.specs.declared.table.Answer.the-variants as A
-use Rattle.document.specs.declared.table.NextAnswer.{NextAnswer}
-use Rattle.document.specs.declared.table.NextAnswer.the-variants as N
-use Rattle.document.specs.declared.table.Table.{Table}
-use Rattle.heads.specs.declared.head.HeadRead.{HeadRead}
-use Rattle.building.specs.Built.{built}
-use Rattle.posology.specs.Reader.{readingOf}
-use Rattle.posology.specs.Next.{tableFor, nextReadingOf, ReadsNextWords}
-use Rattle.posology.specs.declared.next.NextWords.{NextWords}
-use Rattle.posology.proofs.Answers.{made-refused, made-taken}
+use Rattle.document.specs.Answer.{textAtMost}
+use Rattle.texts.specs.Texts.{notEnded, firstWalked}
+use Rattle.texts.specs.declared.FirstText.the-variants as F
 
 -- ---- the walk of some bytes, and of these with others behind them
 -- What stays open at the end goes on in the bytes behind; all else is settled.
@@ -101,7 +90,7 @@ module _ (n : ℕ) (run : List ℕ) where
   run-open : (p : ℕ) → firstObject (take n run) ≡ refused2 (drop p (take n run)) → length (take n run) ≤ p → (m : Mode) × (k : List Frame) × (firstObject run ≡ walk m k (drop n run))
   run-open p h l = rw (h, drop-of-length-le (take n run) l) at run-goes
 
-place-of : (run : List ℕ) (p : ℕ) → p ≤ length run → placeIn run (drop p run) ≡ p
+pub place-of : (run : List ℕ) (p : ℕ) → p ≤ length run → placeIn run (drop p run) ≡ p
 place-of run p h = omega (arith, length-drop p run)
 
 pub length-first : (n : ℕ) (run : List ℕ) → n ≤ length run → length (take n run) ≡ n
@@ -112,109 +101,50 @@ first-length zero run = omega arith
 first-length (suc n) [] = omega arith
 first-length (suc n) (b ∷ run) = let h = first-length n run in omega arith
 
--- ---- what the run's first posology comes to
-module _ (purpose room : ℕ) (run : List ℕ) where
+-- ---- the run's first text
+module _ (run : List ℕ) where
   -- the walk ends or is refused behind the first 32,768 bytes
-  beyond : (w : Walked) → textAtMost < length run → Leaves (length run - textAtMost) w → nextWalked purpose room run w ≡ refusedAt 1 textAtMost
+  beyond : (w : Walked) → textAtMost < length run → Leaves (length run - textAtMost) w → firstWalked run w ≡ F.Refused 1 textAtMost
   beyond (end r) l h = rw (lt-leb (placeIn run r) textAtMost (omega arith))
   beyond (refused2 p) l h = rw (lt-leb (length run) textAtMost l, le-ltb (placeIn run p) textAtMost (omega arith))
   beyond (refused3 p) l h = rw (lt-leb (length run) textAtMost l, le-ltb (placeIn run p) textAtMost (omega (arith, h .1)))
 
   module _ (place : ℕ) (inside : place ≤ length (take textAtMost run)) where
-    pub next-ends : firstObject (take textAtMost run) ≡ end (drop place (take textAtMost run))
-        → nextWalked purpose room run (firstObject run) ≡ upTo place (readWalked purpose room run)
-    next-ends h =
-        ap (nextWalked purpose room run) (run-ends textAtMost run place h inside)
+    pub text-ends : firstObject (take textAtMost run) ≡ end (drop place (take textAtMost run)) → firstWalked run (firstObject run) ≡ F.Ends place
+    text-ends h =
+        ap (firstWalked run) (run-ends textAtMost run place h inside)
         ∙ rw (place-of run place (omega (arith, taken-length textAtMost run)), le-leb place textAtMost (omega (arith, first-length textAtMost run)))
 
-    pub next-deep : firstObject (take textAtMost run) ≡ refused3 (drop place (take textAtMost run))
-        → nextWalked purpose room run (firstObject run) ≡ refusedAt 3 place
-    next-deep h =
-        ap (nextWalked purpose room run) (run-refused3 textAtMost run place h inside)
+    pub text-deep : firstObject (take textAtMost run) ≡ refused3 (drop place (take textAtMost run)) → firstWalked run (firstObject run) ≡ F.Refused 3 place
+    text-deep h =
+        ap (firstWalked run) (run-refused3 textAtMost run place h inside)
         ∙ rw (
           place-of run place (omega (arith, taken-length textAtMost run)),
           lt-ltb place textAtMost (omega (arith, first-length textAtMost run, deep-inside textAtMost run place h)),
           or-true,
         )
 
-    pub next-bad : firstObject (take textAtMost run) ≡ refused2 (drop place (take textAtMost run))
-        → nextWalked purpose room run (firstObject run) ≡ notEnded 2 run place
-    next-bad h = by (ltb place (length (take textAtMost run))) refl
+    pub text-bad : firstObject (take textAtMost run) ≡ refused2 (drop place (take textAtMost run)) → firstWalked run (firstObject run) ≡ notEnded 2 run place
+    text-bad h = by (ltb place (length (take textAtMost run))) refl
       where
         open-on : (m : Mode) (k : List Frame) → firstObject run ≡ walk m k (drop textAtMost run) → length (take textAtMost run) ≤ place
-            → (t : Bool) → leb (length run) textAtMost ≡ t → nextWalked purpose room run (firstObject run) ≡ notEnded 2 run place
+            → (t : Bool) → leb (length run) textAtMost ≡ t → firstWalked run (firstObject run) ≡ notEnded 2 run place
         open-on m k g l true e =
             let d = drop-of-length-le run (leb-true (length run) textAtMost e) in
             let f = take-all textAtMost run (leb-true (length run) textAtMost e) in
             let q : length run - 0 ≡ place = omega (arith, ap length f) in
-            ap (nextWalked purpose room run) (g ∙ ap (walk m k) d ∙ walk-none m k) ∙ ap (notEnded 2 run) q
+            ap (firstWalked run) (g ∙ ap (walk m k) d ∙ walk-none m k) ∙ ap (notEnded 2 run) q
         open-on m k g l false e =
             let b = leb-false (length run) textAtMost e in
             let n = length-first textAtMost run (omega arith) in
-            ap (nextWalked purpose room run) g
+            ap (firstWalked run) g
             ∙ beyond (walk m k (drop textAtMost run)) b (rw (length-drop textAtMost run) at (walk-leaves m k (drop textAtMost run)))
             ∙ sym (rw (lt-leb (length run) textAtMost b, le-ltb place textAtMost (omega arith)))
 
-        by : (t : Bool) → ltb place (length (take textAtMost run)) ≡ t → nextWalked purpose room run (firstObject run) ≡ notEnded 2 run place
+        by : (t : Bool) → ltb place (length (take textAtMost run)) ≡ t → firstWalked run (firstObject run) ≡ notEnded 2 run place
         by true e =
-            ap (nextWalked purpose room run) (run-refused2 textAtMost run place h (ltb-true _ _ e))
+            ap (firstWalked run) (run-refused2 textAtMost run place h (ltb-true _ _ e))
             ∙ ap (notEnded 2 run) (place-of run place (omega (arith, taken-length textAtMost run)))
         by false e =
             let g = run-open textAtMost run place h (ltb-false _ _ e) in
             open-on (g .0) (g .1) (g .2) (ltb-false _ _ e) (leb (length run) textAtMost) refl
-
-  module _ {used : Bool} (is : used ≡ isUse purpose) where
-    pub next-unused : not used ≡ true → readNext purpose room run ≡ refusedAt 17 0
-    unfolding readNext
-    next-unused u = rw (← is, not-true used u)
-
-    -- the first byte that is no blank is at i
-    module _ {i : ℕ} (u : not used ≡ false) (v : Moves blanked run 0 i) where
-      pub next-blank : length run ≤ i → readNext purpose room run ≡ blankTo (length run)
-      unfolding readNext
-      next-blank h = rw (← is, not-false used u, sym (v .lands) ∙ drop-of-length-le run h)
-
-      pub next-begun : i < length run → readNext purpose room run ≡ nextWalked purpose room run (firstObject run)
-      unfolding readNext
-      next-begun h = rw (← is, not-false used u, sym (v .lands) ∙ drop-cons run i 0 h)
-
--- ---- the answer
-pub reads-next : (purpose : ℕ) (run before : List ℕ) (next : ReadNext) {w : NextWords} {ws after : List ℕ}
-    → readNext purpose (roomOf (length before)) run ≡ next → nextReadingOf w ws ≡ nextReading next → after ≡ nextBufferAfter next before → ReadsNextWords purpose run before w ws after
-reads-next purpose run before next e f g = record { result = rw e f; left = rw e g }
-
--- The reading that an answer makes.
-module _ (w : NextWords) (ws : List ℕ) where
-  pub of-answer : {a : NextAnswer} {t : Table} → w .answer ≡ a → t ≡ tableFor a (built (w .head) ws) → record { answer = w .answer; table = t } ≡ nextReadingOf w ws
-  unfolding nextReadingOf
-  of-answer e f = ap (λ (t : Table). record { answer = w .answer; table = t }) (f ∙ ap (λ (a : NextAnswer). tableFor a (built (w .head) ws)) (sym e))
-
-  pub blank-made : {n : ℕ} → w .answer ≡ N.Blank n → nextReadingOf w ws ≡ nextReading (blankTo n)
-  unfolding nextReadingOf
-  blank-made e = rw e
-
-pub not-ended-leaves : (n : ℕ) (run : List ℕ) (place : ℕ) (before : List ℕ) → before ≡ nextBufferAfter (notEnded n run place) before
-not-ended-leaves n run place before = by (leb (length run) textAtMost || ltb place textAtMost)
-  where
-    by : (t : Bool) → before ≡ nextBufferAfter (cond t (refusedAt n place) (refusedAt 1 textAtMost)) before
-    by true = refl
-    by false = refl
-
--- The answer to the text up to e, from the answer to the text.
-module _ (e : ℕ) where
-  pub next-taken : (w : Read) (h : HeadRead) (ws : List ℕ) → readingOf h ws ≡ reading w → h .refused ≡ false → nextReadingOf (record { answer = N.Taken e; head = h }) ws ≡ nextReading (upTo e w)
-  unfolding nextReadingOf
-  next-taken (taken p) h ws r g = ap (λ (x : Reading). record { answer = N.Taken e; table = x .table }) (sym (made-taken h ws g) ∙ r)
-  next-taken (refused n place) h ws r g = let z : _≡_ {A = ℕ} 0 1 = cc (ap (λ (x : Reading). x .answer) (sym (made-taken h ws g) ∙ r)) in absurd (omega arith)
-
-  pub next-refused : (w : Read) (h : HeadRead) (ws : List ℕ) → readingOf h ws ≡ reading w → h .refused ≡ true → nextReading (refusedAt (h .number) (h .place)) ≡ nextReading (upTo e w)
-  next-refused (taken p) h ws r g = let z : _≡_ {A = ℕ} 0 1 = cc (ap (λ (x : Reading). x .answer) (sym (made-refused h ws g) ∙ r)) in absurd (omega arith)
-  next-refused (refused m q) h ws r g =
-      let f = ap (λ (x : Reading). x .answer) (sym (made-refused h ws g) ∙ r) in
-      let x : h .number ≡ m = cc in
-      let y : h .place ≡ q = cc in
-      rw (x, y)
-
-  pub next-leaves : (w : Read) (before : List ℕ) → bufferAfter w before ≡ nextBufferAfter (upTo e w) before
-  next-leaves (taken p) before = refl
-  next-leaves (refused n place) before = refl
