@@ -1,15 +1,12 @@
 -- The plain text of a detail and of a sequence's objects (document 01, "Objects"): the bytes between the texts of its parts.
 use mathlib.Core.Path.{_≡_, refl}
 use mathlib.Core.List.{List, [], _∷_, _++_}
-use mathlib.Core.Bool.{not}
 use Prim.Native.Nat.{ℕ}
-use lib.Dec.{eqb}
-use borrow.Author.Tests.{eq-eqb, ne-eqb}
 use Rattle.json.specs.Rows.{look}
 use Rattle.json.specs.Tree.{Tree, list, Members, noMember, Elements, noElement, element}
 use Rattle.document.specs.Bytes.{bytes}
 use Rattle.document.specs.Spell.{spell, moreMembers, firstElement, quoted, escaped}
-use Rattle.document.specs.Plain.{whole, amount, textTree, field, fieldIf, typed, wholeDigits}
+use Rattle.document.specs.Plain.{whole, amount, textTree, field, typed, wholeDigits}
 
 module _ (k : List ℕ) where
   pub daily-text : (a b c d : ℕ) → spell (typed 1 (field "ds" (list [] (element (amount a) (element (amount b) (element (amount c) (element (amount d) noElement))))) noMember)) k ≡ bytes "{\"t\":1,\"ds\":[" ++ spell (amount a) (44 ∷ spell (amount b) (44 ∷ spell (amount c) (44 ∷ spell (amount d) (93 ∷ 125 ∷ k))))
@@ -27,15 +24,6 @@ module _ (k : List ℕ) where
   pub cyclic-text : (unit du : ℕ) (t : Tree) (ms : Members) → spell (typed 4 (field "cyDuU" (whole unit) (field "cyDu" (whole du) (field "tdo" t ms)))) k ≡ bytes "{\"t\":4,\"cyDuU\":" ++ spell (whole unit) (bytes ",\"cyDu\":" ++ spell (whole du) (bytes ",\"tdo\":" ++ spell t (moreMembers ms k)))
   unfolding spell quoted escaped look wholeDigits
   cyclic-text unit du t ms = refl
-
-  -- tdpc is left out where it is 1.
-  pub once-text : (per : ℕ) → per ≡ 1 → moreMembers (fieldIf (not (eqb per 1)) "tdpc" (whole per) noMember) k ≡ 125 ∷ k
-  unfolding spell
-  once-text per e = rw (eq-eqb per 1 e)
-
-  pub per-text : (per : ℕ) → (per ≡ 1 → ⊥) → moreMembers (fieldIf (not (eqb per 1)) "tdpc" (whole per) noMember) k ≡ bytes ",\"tdpc\":" ++ spell (whole per) (125 ∷ k)
-  unfolding spell quoted escaped look
-  per-text per e = rw (ne-eqb per 1 e)
 
   pub sequence-text : (os : Elements) → spell (typed 5 (field "sos" (list [] os) noMember)) k ≡ bytes "{\"t\":5,\"sos\":[" ++ firstElement os (125 ∷ k)
   unfolding spell quoted escaped look wholeDigits

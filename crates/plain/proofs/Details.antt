@@ -2,7 +2,7 @@
 use mathlib.Core.Path.{_≡_, _∙_}
 use mathlib.Core.List.{List, _++_}
 use mathlib.Core.Bool.{not}
-use Prim.Native.Nat.{ℕ, _+_, _-_, _≤_, _<_}
+use Prim.Native.Nat.{ℕ, _+_, _-_, _%_, _≤_, _<_}
 use native.Mathlib.Omega.{arith}
 use lib.Dec.{eqb}
 use lib.ListN.{length, take, drop}
@@ -16,18 +16,14 @@ use Rattle.printing.specs.Puts.{Puts}
 use Rattle.plain.specs.Prints.{Prints, Lists, TimedPrints, DetailPrints, daily, freeText, single, cyclic, sequence, ObjectPrints, posology, pause, ObjectsPrint}
 use Rattle.printing.proofs.Laid.{puts-then}
 use Rattle.plain.proofs.Pieces.{PutsBytes, PutsWhole, PutsAmount, puts-as}
-use Rattle.plain.proofs.DetailTexts.{daily-text, free-text, single-text, cyclic-text, once-text, per-text, sequence-text, posology-text, pause-text}
+use Rattle.plain.proofs.DetailTexts.{daily-text, free-text, single-text, cyclic-text, sequence-text, posology-text, pause-text}
 
 -- What follows the timed dosage of a cycle: how often it comes in each, where that is not once.
 abbrev pub Ends : ℕ → List ℕ → ℕ → ℕ → List ℕ → Type 0
 Ends per before from r after = (k : List ℕ) → per ≤ greatestInteger → Puts before from (moreMembers (fieldIf (not (eqb per 1)) "tdpc" (whole per) noMember) k) k r after
 
-module _ {per : ℕ} {before : List ℕ} {from r : ℕ} {between : List ℕ} where
-  pub ends-once : per ≡ 1 → PutsBytes before from "}" r between → Ends per before from r between
-  ends-once e p k h = puts-as (once-text k per e) (p k)
-
-  pub ends-per : {s : ℕ} {after : List ℕ} → (per ≡ 1 → ⊥) → PutsWhole before from ",\"tdpc\":" per r between → PutsBytes between r "}" s after → Ends per before from s after
-  ends-per e p q k h = puts-as (per-text k per e) (puts-then (p _ (omega arith)) (q k))
+pub ends-cycle : {per : ℕ} {before : List ℕ} {from r : ℕ} {after : List ℕ} → ((k : List ℕ) → Puts before from (moreMembers (fieldIf (not (eqb (per % 1000000) 1)) "tdpc" (whole (per % 1000000)) noMember) k) k r after) → Ends per before from r after
+ends-cycle {per} p k h = let e : per % 1000000 ≡ per = omega arith in rw e at (p k)
 
 -- A duration and its unit are put, as the code says it of those at record i.
 abbrev pub Span : List ℕ → ℕ → List ℕ → List ℕ → ℕ → ℕ → List ℕ → Type 0

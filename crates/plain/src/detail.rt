@@ -67,12 +67,7 @@ fn put_cyclic(words: &[u64], i: usize, out: &mut [u8], from: usize) -> usize
     let at = dosage::put_integer(out, at, b",\"cyDu\":", record::b(words, i));
     let at = printing::put_all(out, at, b",\"tdo\":");
     let at = timed::put_timed(words, i + 1, out, at);
-    let per = record::c(words, i);
-    if per == 1 {
-        return printing::put(out, at, b'}');
-    }
-    let at = dosage::put_integer(out, at, b",\"tdpc\":", per);
-    printing::put(out, at, b'}')
+    printing::put_per_cycle(out, at, record::c(words, i))
 }
 
 // A pause, or the start of a posology in a sequence.

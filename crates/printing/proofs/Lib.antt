@@ -3,3 +3,4 @@ pub mod Laid
 pub mod Digits
 pub mod Fractions
 pub mod Chars
+mod Cycles

@@ -1,10 +1,13 @@
 // The parts of a plain text put into a lent buffer one behind the other, as far as it reaches:
 // the place behind them is told all the same, so that a text can be measured without room.
 ghost use mathlib.Core.Path.{_≡_};
+ghost use mathlib.Core.Bool.{not};
 ghost use mathlib.Core.List.{List, _∷_, _++_};
 ghost use Prim.Native.Nat.{ℕ, _+_, _%_, _<_};
-ghost use Rattle.document.specs.Spell.{hexDigit, control, escaped, spell};
-ghost use Rattle.document.specs.Plain.{fractionDigits, whole, amount, textTree, two, clock, timeText};
+ghost use lib.Dec.{eqb};
+ghost use Rattle.json.specs.Tree.{noMember};
+ghost use Rattle.document.specs.Spell.{hexDigit, control, escaped, spell, moreMembers};
+ghost use Rattle.document.specs.Plain.{fractionDigits, whole, amount, fieldIf, textTree, two, clock, timeText};
 ghost use Rattle.printing.specs.Puts.{Puts};
 ghost use Rattle.printing.specs.Tens.{tens};
 
@@ -61,6 +64,19 @@ pub fn put_whole(out: &mut [u8], from: usize, number: u64) -> usize
     let at = put_tens(out, at, n / 10);
     let at = put_tens(out, at, n);
     put(out, at, digit(n))
+}
+
+// How often a cycle's dosage comes in it, left out where that is once; and the brace that ends the cycle.
+pub fn put_per_cycle(out: &mut [u8], from: usize, per: u64) -> usize
+    ensures { λ r. ⌜ ((k : List ℕ) → Puts (now (out .entry)) from (moreMembers (fieldIf (not (eqb (per % 1000000) 1)) "tdpc" (whole (per % 1000000)) noMember) k) k r (now (out .exit))) ⌝ }
+{
+    let n = per % 1000000;
+    if n == 1 {
+        return put(out, from, b'}');
+    }
+    let at = put_all(out, from, b",\"tdpc\":");
+    let at = put_whole(out, at, n);
+    put(out, at, b'}')
 }
 
 // The digits behind the point, as long as something is left.

@@ -1,5 +1,6 @@
-use Rattle.plain.proofs.Details.{prints-cyclic, ends-once, ends-per}
+-- The pieces of a cycle, one behind the other.
 use borrow.Author.Needs.{needs}
+use Rattle.plain.proofs.Details.{prints-cyclic, ends-cycle}
 use Rattle.plain.proofs.detail.put_cyclic.Statement.{statement}
 use Rattle.plain.proofs.detail.put_cyclic.Tie as tie
 
@@ -36,37 +37,20 @@ put-timed-requires c κs = search needs
 c-requires : tie.Need-c-requires
 c-requires c κs = search needs
 
-put-requires : tie.Need-put-requires
-put-requires c κs = search needs
+put-per-cycle-requires : tie.Need-put-per-cycle-requires
+put-per-cycle-requires c κs = search needs
 
 same-length : tie.Need-same-length
 same-length c = search needs
 
 returns : tie.Need-returns
 returns c buffer left h =
-    let s3 = c .before .before .before .before .before .before .before .before in
-    let s2 = s3 .before .before .before .before .before .before .before .before .before in
-    let s1 = s2 .before .before .before .before .before .before in
-    prints-cyclic h (s1 .before .a .ensures) (s2 .before .b .ensures) (c .before .before .before .before .before .c .ensures) (s1 .put-integer .ensures) (s2 .put-integer2 .ensures) (c .before .before .before .before .before .before .before .before .before .before .before .before .put-all .ensures) (s3 .put-timed .ensures) (ends-once (c .before .before .before .before .if1 .taken) (c .before .before .put .ensures))
-
-slice-aggregate-put-integer-3 : tie.Need-slice-aggregate-put-integer-3
-slice-aggregate-put-integer-3 c = search needs
-
-put-integer-requires-3 : tie.Need-put-integer-requires-3
-put-integer-requires-3 c κs = search needs
-
-put-requires-2 : tie.Need-put-requires-2
-put-requires-2 c κs = search needs
-
-same-length-2 : tie.Need-same-length-2
-same-length-2 c = search needs
-
-returns-2 : tie.Need-returns-2
-returns-2 c buffer left h =
-    let s3 = c .before .before .before .before .before .before .before .before .before .before .before .before .before in
-    let s2 = s3 .before .before .before .before .before .before .before .before .before in
-    let s1 = s2 .before .before .before .before .before .before in
-    prints-cyclic h (s1 .before .a .ensures) (s2 .before .b .ensures) (c .before .before .before .before .before .before .before .before .before .before .c .ensures) (s1 .put-integer .ensures) (s2 .put-integer2 .ensures) (c .before .before .before .before .before .before .before .before .before .before .before .before .before .before .before .before .before .put-all .ensures) (s3 .put-timed .ensures) (ends-per (c .before .before .before .before .before .before .before .before .before .if1 .left) (c .before .before .before .before .before .before .put-integer3 .ensures) (c .before .before .put2 .ensures))
+    let last = c .before .before in
+    let timed = last .before .before .before .before .before in
+    let name = timed .before .before .before .before in
+    let du = name .before .before .before .before .before in
+    let unit = du .before .before .before .before .before .before in
+    prints-cyclic h (unit .before .a .ensures) (du .before .b .ensures) (last .before .c .ensures) (unit .put-integer .ensures) (du .put-integer2 .ensures) (name .put-all .ensures) (timed .put-timed .ensures) (ends-cycle (last .put-per-cycle .ensures))
 
 pub put-cyclic-spec : {M : Type 1} → statement M
 put-cyclic-spec =
@@ -83,11 +67,6 @@ put-cyclic-spec =
     add-put-timed
     put-timed-requires
     c-requires
-    put-requires
+    put-per-cycle-requires
     same-length
-    returns
-    slice-aggregate-put-integer-3
-    put-integer-requires-3
-    put-requires-2
-    same-length-2
-    returns-2)
+    returns)
