@@ -1,15 +1,15 @@
--- The measure is what is left of the line.
+-- The measure is what is left of the bytes.
 use Prim.Native.Nat.{_≤_, _-_}
 use lib.ListN.{length}
 use borrow.Author.Needs.{needs}
-use Rattle.story.proofs.blank_from.Statement.{statement}
-use Rattle.story.proofs.blank_from.Tie as tie
+use Rattle.story.proofs.named.until.Statement.{statement}
+use Rattle.story.proofs.named.until.Tie as tie
 
 abbrev Inv-loop : tie.InvT-loop
-Inv-loop line at i₀ i = at ≤ i
+Inv-loop bytes at byte i₀ i = (at ≤ i) × (i ≤ length bytes)
 
 abbrev μ-loop : tie.MeasureT-loop
-μ-loop line at i₀ i = length line - i
+μ-loop bytes at byte i₀ i = length bytes - i
 
 loop-holds : tie.Need-loop-holds Inv-loop μ-loop
 loop-holds c = search needs
@@ -32,8 +32,8 @@ loop-again c = search needs
 returns-2 : tie.Need-returns-2 Inv-loop μ-loop
 returns-2 c = search needs
 
-pub blank-from-spec : {M : Type 1} → statement M
-blank-from-spec =
+pub until-spec : {M : Type 1} → statement M
+until-spec =
     tie.close
     (tie.spec
     Inv-loop
