@@ -1,23 +1,14 @@
 -- The names before a member.
 use Prim.Native.Nat.{ℕ, zero, suc, _-_, _<_, _≤_}
 use mathlib.Core.Path.{_≡_, refl, sym, ap, _∙_}
-use mathlib.Core.List.{List, [], _∷_}
-use mathlib.Core.Bool.{Bool, true, false, _&&_, _||_}
-use lib.Dec.{eqb}
+use mathlib.Core.List.{List}
+use mathlib.Core.Bool.{Bool, true, false, _||_}
 use native.Mathlib.Omega.{arith}
 use Rattle.json.specs.Tree.{Place}
 use Rattle.moving.specs.Moving.{nextAfter, valueOf}
 use Rattle.moving.specs.Read.{decoded}
-use Rattle.naming.specs.Naming as S
 use Rattle.document.specs.Lookup.{same, has}
 use Rattle.names.specs.Names.{namesFrom}
-
-pub same-strings : (s t : List ℕ) → S.same s t ≡ same s t
-unfolding S.same
-same-strings [] [] = refl
-same-strings [] (c ∷ t) = refl
-same-strings (b ∷ s) [] = refl
-same-strings (b ∷ s) (c ∷ t) = ap (λ x. eqb b c && x) (same-strings s t)
 
 -- The names from a place on, one after the other.
 module _ (n : List ℕ) (left : ℕ) (s : Place) (some : 0 < left) where
@@ -25,11 +16,11 @@ module _ (n : List ℕ) (left : ℕ) (s : Place) (some : 0 < left) where
   unfolding namesFrom
   one = let e : left ≡ suc (left - 1) = omega arith in ap (λ x. has n (namesFrom x s)) e
 
-  pub before-here : true ≡ S.same n (decoded s) → true ≡ has n (namesFrom left s)
-  before-here e = sym (one ∙ rw (← same-strings n (decoded s), ← e))
+  pub before-here : true ≡ same n (decoded s) → true ≡ has n (namesFrom left s)
+  before-here e = sym (one ∙ rw (← e))
 
-  pub before-on : false ≡ S.same n (decoded s) → has n (namesFrom (left - 1) (nextAfter (valueOf s))) ≡ has n (namesFrom left s)
-  before-on e = sym (one ∙ rw (← same-strings n (decoded s), ← e))
+  pub before-on : false ≡ same n (decoded s) → has n (namesFrom (left - 1) (nextAfter (valueOf s))) ≡ has n (namesFrom left s)
+  before-on e = sym (one ∙ rw (← e))
 
 pub before-none : (n : List ℕ) (left : ℕ) (s : Place) → left ≤ 0 → false ≡ has n (namesFrom left s)
 unfolding namesFrom

@@ -8,41 +8,20 @@ use lib.Dec.{eqb, leb, ltb}
 use native.Mathlib.Omega.{arith}
 use borrow.Author.Tests.{eqb-true, eq-eqb, ne-eqb, leb-true, ltb-true}
 use Rattle.document.specs.Lookup.{same}
+use Rattle.document.proofs.Good.{and-left, and-right}
+use Rattle.document.proofs.Same.{same-refl, same-equal}
 use Rattle.names.specs.Names.{names, nameAt, indexIn, indexOf, pack, headOf, tailOf, Bytes, packedIn, shortIndex, Packs}
 use Rattle.names.specs.declared.Packed.{Packed}
 use Rattle.names.proofs.Packing.{names-apart}
-
--- ---- equal names
-pub same-self : (s : List ℕ) → same s s ≡ true
-same-self [] = refl
-same-self (b ∷ s) = rw (eq-eqb b b refl, same-self s)
-
-pub same-eq : (s t : List ℕ) → same s t ≡ true → s ≡ t
-same-eq [] [] e = refl
-same-eq [] (c ∷ t) e = let z : _≡_ {A = ℕ} 0 1 = cc in absurd (omega arith)
-same-eq (b ∷ s) [] e = let z : _≡_ {A = ℕ} 0 1 = cc in absurd (omega arith)
-same-eq (b ∷ s) (c ∷ t) e = go (eqb b c) refl (same-eq s t)
-  where
-    go : (x : Bool) → eqb b c ≡ x → (same s t ≡ true → s ≡ t) → b ∷ s ≡ c ∷ t
-    go true h f = let g : same s t ≡ true = rw h at e in rw (eqb-true b c h, f g)
-    go false h f = let g : false ≡ true = rw h at e in let z : _≡_ {A = ℕ} 0 1 = cc in absurd (omega arith)
 
 -- ---- by packed bytes
 abbrev allBytes : List ℕ → Bool
 allBytes [] = true
 allBytes (b ∷ s) = ltb b 256 && allBytes s
 
-pub both-left : (a b : Bool) → a && b ≡ true → a ≡ true
-both-left true b e = refl
-both-left false b e = e
-
-pub both-right : (a b : Bool) → a && b ≡ true → b ≡ true
-both-right true b e = e
-both-right false b e = let z : _≡_ {A = ℕ} 0 1 = cc in absurd (omega arith)
-
 all-bytes : (s : List ℕ) → allBytes s ≡ true → Bytes s
 all-bytes [] e = tt
-all-bytes (b ∷ s) e = (ltb-true b 256 (both-left _ _ e), all-bytes s (both-right (ltb b 256) _ e))
+all-bytes (b ∷ s) e = (ltb-true b 256 (and-left _ _ e), all-bytes s (and-right (ltb b 256) _ e))
 
 abbrev proper : List (List ℕ) → Bool
 proper [] = true
@@ -55,7 +34,7 @@ module _ (name : List ℕ) (p : Packed) (k : Packs name p) where
       other : (same name m ≡ false) → p .tail ≡ tailOf m → p .head ≡ headOf m → ⊥
       other e t u =
           let n : name ≡ m = names-apart name m (k .small) h l (sym (k .head) ∙ u) (sym (k .tail) ∙ t) in
-          let f : true ≡ false = sym (same-self m) ∙ rw n at e in
+          let f : true ≡ false = sym (same-refl m) ∙ rw n at e in
           let z : _≡_ {A = ℕ} 0 1 = cc in
           omega arith
 
@@ -64,15 +43,15 @@ module _ (name : List ℕ) (p : Packed) (k : Packs name p) where
       apart e false t = rw t
 
       go : (x : Bool) → same name m ≡ x → eqb (p .tail) (tailOf m) && eqb (p .head) (headOf m) ≡ x
-      go true e = let n = same-eq name m e in rw (eq-eqb (p .tail) (tailOf m) (k .tail ∙ ap tailOf n), eq-eqb (p .head) (headOf m) (k .head ∙ ap headOf n))
+      go true e = let n = same-equal name m e in rw (eq-eqb (p .tail) (tailOf m) (k .tail ∙ ap tailOf n), eq-eqb (p .head) (headOf m) (k .head ∙ ap headOf n))
       go false e = apart e (eqb (p .tail) (tailOf m)) refl
 
   index-packed : (ms : List (List ℕ)) (i : ℕ) → proper ms ≡ true → packedIn ms i (p .head) (p .tail) ≡ indexIn ms i name
   index-packed [] i e = refl
   index-packed (m ∷ ms) i e =
-      let b = both-left (allBytes m) _ e in
-      let f = both-right (allBytes m) _ e in
-      rw (same-packed m (all-bytes m b) (leb-true (length m) 14 (both-left _ _ f)), index-packed ms (suc i) (both-right (leb (length m) 14) _ f))
+      let b = and-left (allBytes m) _ e in
+      let f = and-right (allBytes m) _ e in
+      rw (same-packed m (all-bytes m b) (leb-true (length m) 14 (and-left _ _ f)), index-packed ms (suc i) (and-right (leb (length m) 14) _ f))
 
   by-packed : packedIn names 0 (p .head) (p .tail) ≡ indexOf name
   unfolding names indexOf
@@ -128,8 +107,8 @@ numbered i (m ∷ ms) = eqb (indexOf m) i && numbered (suc i) ms
 
 number-at : (i : ℕ) (ms : List (List ℕ)) → numbered i ms ≡ true → (j : ℕ) → j < length ms → indexOf (getD ms j []) ≡ i + j
 number-at i [] e j h = absurd (omega arith)
-number-at i (m ∷ ms) e zero h = let n = eqb-true (indexOf m) i (both-left _ _ e) in omega arith
-number-at i (m ∷ ms) e (suc j) h = let n = number-at (suc i) ms (both-right (eqb (indexOf m) i) _ e) j (omega arith) in omega arith
+number-at i (m ∷ ms) e zero h = let n = eqb-true (indexOf m) i (and-left _ _ e) in omega arith
+number-at i (m ∷ ms) e (suc j) h = let n = number-at (suc i) ms (and-right (eqb (indexOf m) i) _ e) j (omega arith) in omega arith
 
 number-of : (i : ℕ) → i < 33 → indexOf (nameAt i) ≡ i
 unfolding names nameAt indexOf
@@ -140,7 +119,7 @@ unfolding names nameAt indexOf
 name-of n h = index-of names 0 n (indexOf n) (omega arith) h
 
 pub name-is : (n : List ℕ) → indexOf n < 33 → n ≡ nameAt (indexOf n)
-name-is n h = same-eq n (nameAt (indexOf n)) (name-of n h)
+name-is n h = same-equal n (nameAt (indexOf n)) (name-of n h)
 
 module _ (i : ℕ) (h : i < 33) (n : List ℕ) where
   number-same : n ≡ nameAt i → i ≡ indexOf n
@@ -154,12 +133,12 @@ module _ (i : ℕ) (h : i < 33) (n : List ℕ) where
   named-same = go (same (nameAt i) n) refl
     where
       go : (x : Bool) → same (nameAt i) n ≡ x → x ≡ eqb i (indexOf n)
-      go true e = sym (eq-eqb i (indexOf n) (number-same (sym (same-eq (nameAt i) n e))))
-      go false e = sym (ne-eqb i (indexOf n) (λ z. false≢true (sym e ∙ rw (← same-number z) (same-self n))))
+      go true e = sym (eq-eqb i (indexOf n) (number-same (sym (same-equal (nameAt i) n e))))
+      go false e = sym (ne-eqb i (indexOf n) (λ z. false≢true (sym e ∙ rw (← same-number z) (same-refl n))))
 
   pub same-named : same n (nameAt i) ≡ eqb (indexOf n) i
   same-named = go (same n (nameAt i)) refl
     where
       go : (x : Bool) → same n (nameAt i) ≡ x → x ≡ eqb (indexOf n) i
-      go true e = sym (eq-eqb (indexOf n) i (sym (number-same (same-eq n (nameAt i) e))))
-      go false e = sym (ne-eqb (indexOf n) i (λ z. false≢true (sym e ∙ rw (← same-number (sym z)) (same-self n))))
+      go true e = sym (eq-eqb (indexOf n) i (sym (number-same (same-equal n (nameAt i) e))))
+      go false e = sym (ne-eqb (indexOf n) i (λ z. false≢true (sym e ∙ rw (← same-number (sym z)) (same-refl n))))

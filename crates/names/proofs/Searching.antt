@@ -7,10 +7,8 @@ use lib.ListN.{getD, drop}
 use native.Mathlib.Omega.{arith}
 use borrow.Author.Count.{below-more}
 use Rattle.moving.specs.Read.{decoded}
-use Rattle.naming.specs.Naming as S
 use Rattle.document.specs.Lookup.{same}
 use Rattle.names.specs.Names.{firstSlot, slotName, Searched, Sought}
-use Rattle.names.proofs.Before.{same-strings}
 
 module _ {seed : ℕ} {text : List ℕ} {quote : ℕ} {table : List ℕ} where
   pub sought-near : {r : ℕ} → quote < 65535 → Searched seed text (decoded (drop quote text)) table r → Sought seed text quote table r
@@ -34,14 +32,14 @@ module _ {seed : ℕ} {text n table : List ℕ} {i : ℕ} (s : Searching seed te
   search-over l = record { from = s .from; passed = s .passed; ends = λ h p. absurd (omega arith) }
 
   module _ {o : ℕ} (e : o ≡ getD table i 0 - 1) where
-    here : (x : Bool) → x ≡ S.same n (decoded (drop o text)) → same n (slotName text table i) ≡ x
+    here : (x : Bool) → x ≡ same n (decoded (drop o text)) → same n (slotName text table i) ≡ x
     unfolding slotName
-    here x h = ap (λ y. same n (decoded (drop y text))) (sym e) ∙ sym (same-strings n (decoded (drop o text))) ∙ sym h
+    here x h = ap (λ y. same n (decoded (drop y text))) (sym e) ∙ sym h
 
-    pub search-found : true ≡ S.same n (decoded (drop o text)) → Searched seed text n table i
+    pub search-found : true ≡ same n (decoded (drop o text)) → Searched seed text n table i
     search-found h = record { from = s .from; passed = s .passed; ends = λ l p. here true h }
 
-    pub search-on : (getD table i 0 ≡ 0 → ⊥) → false ≡ S.same n (decoded (drop o text)) → Searching seed text n table (i + 1)
+    pub search-on : (getD table i 0 ≡ 0 → ⊥) → false ≡ same n (decoded (drop o text)) → Searching seed text n table (i + 1)
     search-on f h =
         record {
           from = omega (arith, s .from);

@@ -15,8 +15,9 @@ use Rattle.spelling.proofs.Moved.{members-in}
 use Rattle.document.specs.Lookup.{same, has, repeated}
 use Rattle.document.specs.Visit.{entriesOf}
 use Rattle.document.specs.At.{At}
+use Rattle.document.proofs.Same.{same-equal}
 use Rattle.names.specs.Names.{nameAt, indexOf, namesFrom, seenOnce, seenAgain, Settled}
-use Rattle.names.proofs.Numbered.{same-eq, name-is, named-same}
+use Rattle.names.proofs.Numbered.{name-is, named-same}
 use Rattle.names.proofs.Before.{behind, behind-more, names-more}
 use Rattle.names.proofs.Rest.{Rest, Stands, rest-in, rest-one, rest-none, stands-at, first-above}
 use Rattle.names.proofs.Slots.{entry, Slotted, free, slotted-end, slotted-has, slotted-other, slotted-here, Noted}
@@ -148,7 +149,7 @@ module _ {text : List ℕ} {at : ℕ} {ms : Members} {slots : List ℕ} {m q : �
 
           go : (x : Bool) → eqb i k ≡ x → Slotted text (nameAt i) (decoded (drop q text) ∷ s .seen) (entriesOf ms) (entriesOf (one .others)) (getD after i 0)
           go true z =
-              let n = same-eq (nameAt i) (decoded (drop q text)) (is ∙ z) in
+              let n = same-equal (nameAt i) (decoded (drop q text)) (is ∙ z) in
               let new : has (nameAt i) (s .seen) ≡ false = rw n fresh in
               let filled : getD after i 0 ≡ v = noted .slot i l ∙ rw z in
               rw filled (slotted-here (drop q text) (decoded (drop q text)) (one .tree) (is ∙ z) new was (omega (arith, s .ahead, to .ahead)) (stands-at text v (one .value) (to .lands)))

@@ -9,9 +9,9 @@ use lib.Dec.{eqb, ltb}
 use native.Mathlib.Omega.{arith}
 use borrow.Author.Tests.{ltb-true, ltb-false, eqb-true, eqb-false}
 use Rattle.moving.specs.Read.{decoded}
+use Rattle.document.proofs.Same.{same-refl, same-equal}
 use Rattle.document.specs.Lookup.{same, has}
 use Rattle.names.specs.Names.{firstSlot, slotName, Searched}
-use Rattle.names.proofs.Numbered.{same-self, same-eq}
 
 pub record Kept (seed : ℕ) (text table n : List ℕ) : Type 0 where
   pub slot : ℕ
@@ -60,7 +60,7 @@ either false e = e
 
 module _ {seed : ℕ} {text table : List ℕ} {seen : List (List ℕ)} (t : Tabled seed text table seen) {n : List ℕ} {r : ℕ} (s : Searched seed text n table r) where
   found : r < 8192 → 0 < getD table r 0 → has n seen ≡ true
-  found h p = subst (λ x. has x seen ≡ true) (sym (same-eq n (slotName text table r) (s .ends h p))) (t .sound r h p)
+  found h p = subst (λ x. has x seen ≡ true) (sym (same-equal n (slotName text table r) (s .ends h p))) (t .sound r h p)
 
   -- the search would have met it
   nowhere : r < 8192 → getD table r 0 ≡ 0 → Kept seed text table n → ⊥
@@ -69,7 +69,7 @@ module _ {seed : ℕ} {text table : List ℕ} {seen : List (List ℕ)} (t : Tabl
       go : (x y : Bool) → ltb (k .slot) r ≡ x → ltb r (k .slot) ≡ y → ⊥
       go true y a b =
           let l = ltb-true (k .slot) r a in
-          false≢true (sym (s .passed (k .slot) l (k .from) .1) ∙ ap (same n) (k .is (omega arith) .1) ∙ same-self n)
+          false≢true (sym (s .passed (k .slot) l (k .from) .1) ∙ ap (same n) (k .is (omega arith) .1) ∙ same-refl n)
       go false true a b = omega (arith, k .filled r (ltb-true r (k .slot) b) (s .from))
       go false false a b =
           let e : k .slot ≡ r = omega (arith, ltb-false (k .slot) r a, ltb-false r (k .slot) b) in
@@ -128,11 +128,11 @@ module _ {seed : ℕ} {text table : List ℕ} {seen : List (List ℕ)} (t : Tabl
         sounds j h p true i =
             let z = eqb-true j r i in
             let is : slotName text after j ≡ n = rw z (name-here (rw z at h)) in
-            rw (is, same-self n)
+            rw (is, same-refl n)
         sounds j h p false i =
             let was = e .other j (λ l. eqb-false j r i) in
             rw (name-at text table after j was) (either (same (slotName text table j) n) (t .sound j h (rw was at p)))
 
         wholes : (m : List ℕ) → has m (n ∷ seen) ≡ true → (x : Bool) → same m n ≡ x → Kept seed text after m
-        wholes m h true i = rw (same-eq m n i) here
+        wholes m h true i = rw (same-equal m n i) here
         wholes m h false i = kept m (t .whole m (rw i at h))

@@ -15,9 +15,10 @@ use Rattle.spelling.proofs.Moved.{members-in}
 use Rattle.document.specs.Lookup.{Entry, Found, nothing, same, has, find, unknown}
 use Rattle.document.specs.Visit.{Value, entriesOf}
 use Rattle.document.specs.At.{At, Slot, empty, filled}
+use Rattle.document.proofs.Good.{and-left, and-right}
 use Rattle.names.specs.Names.{nameAt, indexOf, membersIn, Once, rowNames, isIn, isRow, stands, standingOf, Tells}
 use Rattle.names.specs.declared.Unknown.{Unknown}
-use Rattle.names.proofs.Numbered.{both-left, both-right, named-same, same-named}
+use Rattle.names.proofs.Numbered.{named-same, same-named}
 use Rattle.names.proofs.Settling.{members-more, members-end, members-none}
 
 -- ---- a row's names by their numbers
@@ -27,13 +28,13 @@ or-cond false b = refl
 
 module _ (k : ℕ) (ks : List ℕ) (row : isRow (k ∷ ks) ≡ true) where
   row-number : k < 33
-  row-number = ltb-true k 33 (both-left (ltb k 33) _ (both-left _ _ row))
+  row-number = ltb-true k 33 (and-left (ltb k 33) _ (and-left _ _ row))
 
   row-once : isIn k ks ≡ false
-  row-once = not-true (isIn k ks) (both-right (ltb k 33) _ (both-left _ _ row))
+  row-once = not-true (isIn k ks) (and-right (ltb k 33) _ (and-left _ _ row))
 
   row-rest : isRow ks ≡ true
-  row-rest = both-right (ltb k 33 && not (isIn k ks)) _ row
+  row-rest = and-right (ltb k 33 && not (isIn k ks)) _ row
 
 pub row-has : (row : List ℕ) → isRow row ≡ true → (n : List ℕ) → has n (rowNames row) ≡ isIn (indexOf n) row
 row-has [] e n = refl
