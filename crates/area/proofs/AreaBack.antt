@@ -9,14 +9,13 @@ use lib.ListN.{length}
 use Rattle.document.specs.Lookup.{same}
 use Rattle.document.specs.Words.{tableWords}
 use Rattle.document.specs.declared.table.Table.{Table}
-use Rattle.document.proofs.Tables.{same-equal}
+use Rattle.document.proofs.Same.{same-refl, same-equal}
 use Rattle.area.specs.Area.{areaBytes, areaOf, tableIn, isArea}
 use Rattle.area.specs.Fits.{Fitting, AllBytes}
 use Rattle.area.proofs.Bytes.{all-length}
 use Rattle.area.proofs.InFits.{in-fits}
 use Rattle.area.proofs.Numbers.{back}
 use Rattle.area.proofs.Parts.{table-length}
-use Rattle.area.proofs.Same.{same-refl}
 
 pub area-back : (t : Table) → Fitting t → tableIn (areaOf t) ≡ t
 area-back t f = back t f

@@ -1,16 +1,10 @@
 -- The test for equal bytes.
 use Prim.Native.Nat.{ℕ}
 use mathlib.Core.Path.{_≡_, refl, sym, ap, _∙_}
-use mathlib.Core.List.{List, [], _∷_}
+use mathlib.Core.List.{List}
 use mathlib.Core.Bool.{Bool, true, false}
-use borrow.Author.Tests.{eq-eqb}
 use Rattle.document.specs.Lookup.{same}
-use Rattle.document.proofs.Good.{and-both}
-use Rattle.document.proofs.Tables.{same-equal}
-
-pub same-refl : (s : List ℕ) → same s s ≡ true
-same-refl [] = refl
-same-refl (b ∷ s) = and-both (eq-eqb b b refl) (same-refl s)
+use Rattle.document.proofs.Same.{same-refl, same-equal}
 
 decided : (r b : Bool) → (r ≡ true → b ≡ true) → (b ≡ true → r ≡ true) → r ≡ b
 decided true b f g = sym (f refl)

@@ -19,7 +19,7 @@ use Rattle.document.specs.declared.table.Table.{Table}
 use Rattle.document.proofs.Good.{and-left, and-right}
 use Rattle.document.proofs.WordsBack.{words-one}
 use Rattle.document.proofs.Untabled.{detail-length, filled-is}
-use Rattle.document.proofs.Tables.{same-equal}
+use Rattle.document.proofs.Same.{same-equal}
 use Rattle.words.specs.Standing.{Lies}
 use Rattle.words.proofs.Rowed.{rows-lie}
 use Rattle.checking.proofs.Laid.{all-length, front-lies}

@@ -1,9 +1,10 @@
 -- The demands, the examples, and the laws that they rest on.
 pub mod Examples
 pub mod Leaves
+pub mod Good
+pub mod Same
 pub mod Reorder
 pub mod OneMeaning
-pub mod Good
 pub mod Days
 pub mod Dates
 pub mod Makes

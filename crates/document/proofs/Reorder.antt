@@ -1,11 +1,11 @@
 -- Members in another order and values at other places are read alike: both accepted as the same, or both refused.
-use mathlib.Core.Path.{_≡_, refl, ap₂, sym, _∙_}
+use mathlib.Core.Path.{_≡_, refl, _∙_}
 use mathlib.Core.List.{List, [], _∷_, _++_}
 use mathlib.Core.Bool.{Bool, true, false, cond, _||_, _&&_, not, true≢false, false≢true}
 use mathlib.Core.Option.{Option, none, some}
-use Prim.Native.Nat.{ℕ, zero, suc}
+use Prim.Native.Nat.{ℕ}
 use native.Mathlib.Omega.{arith}
-use lib.Dec.{eqb, leb, ltb, eqb·zero-suc, eqb·suc-zero, eqb·suc-suc}
+use lib.Dec.{eqb, leb, ltb}
 use lib.ListN.{length}
 use Rattle.json.specs.Tree.{Place, Tree, Members, Elements}
 use Rattle.numbers.specs.Number.{integerIn, decimalFrom}
@@ -19,6 +19,7 @@ use Rattle.document.specs.Date.{dateOf, timeOf}
 use Rattle.document.specs.Lookup.{Entry, same, has, orElse, Found, nothing, one, twice, add, find, repeated, unknown}
 use Rattle.document.specs.Schema.{Family, aPosology, NumberShape, integer, decimal, StringShape, text, date, time, ListShape, fourDecimals, days, some-objects, any-objects, Shape, aNumber, aString, aFlag, anObject, aList, Rows, need, may, gives, gives-if, rowsOf, typesOf, isRecord, mayStand, mayOpen, names}
 use Rattle.document.specs.Visit.{Left, recordLess, Outcome, done, refuse, bind, guard, unless, Value, needed, present, optional, fields, opening, body, placeOf, typed, byType, members, whole, millionths, digits, orRefused, chars, each, isEmpty, distinct, decimals, elements, ofNumber, ofString, ofBool, ofObject, ofList, valueOf, entriesOf, valuesOf, visit, recordsAtMost}
+use Rattle.document.proofs.Same.{same-sym}
 use Rattle.document.specs.Same as S
 use Rattle.document.specs.Same.{Reordered, ReorderedMembers, ReorderedElements}
 
@@ -129,18 +130,6 @@ unknown-alike k no-entry = refl
 unknown-alike k (next-entry {n = n} h t) = simp orElse-none (rw (unknown-alike k t))
 unknown-alike k (swap-entry {n = n} {m = m} {es = es}) = simp orElse-none (and-left-comm (not (not (has n k))) (not (not (has m k))) (isNone (unknown k es)))
 unknown-alike k (twice-entry s t) = unknown-alike k s ∙ unknown-alike k t
-
-eqb-sym : (a b : ℕ) → eqb a b ≡ eqb b a
-eqb-sym zero zero = refl
-eqb-sym zero (suc b) = eqb·zero-suc b ∙ sym (eqb·suc-zero b)
-eqb-sym (suc a) zero = eqb·suc-zero a ∙ sym (eqb·zero-suc a)
-eqb-sym (suc a) (suc b) = eqb·suc-suc a b ∙ eqb-sym a b ∙ sym (eqb·suc-suc b a)
-
-pub same-sym : (a b : List ℕ) → same a b ≡ same b a
-same-sym [] [] = refl
-same-sym [] (b ∷ bs) = refl
-same-sym (a ∷ as′) [] = refl
-same-sym (a ∷ as′) (b ∷ bs) = ap₂ _&&_ (eqb-sym a b) (same-sym as′ bs)
 
 repeated-seen : (k l : List (List ℕ)) → ((n : List ℕ) → has n k ≡ has n l) → (es : List (Entry Value)) → isNone (repeated k es) ≡ isNone (repeated l es)
 repeated-seen k l h [] = refl

@@ -1,12 +1,12 @@
 -- A table stands for its posology, and the writer makes its plain text.
 use mathlib.Core.Path.{_≡_, refl, ap, sym, subst, _∙_}
-use mathlib.Core.List.{List, [], _∷_, _++_}
+use mathlib.Core.List.{List, [], _++_}
 use mathlib.Core.Bool.{Bool, true, false, _&&_, false≢true}
 use Prim.Native.Nat.{ℕ}
-use lib.Dec.{eqb, leb}
+use lib.Dec.{leb}
 use lib.ListN.{length, take, drop, take-append-drop}
 use lib.Seq.{take-at}
-use borrow.Author.Tests.{leb-true, le-leb, eq-eqb, eqb-true}
+use borrow.Author.Tests.{leb-true, le-leb}
 use Rattle.json.specs.Rows.{choose}
 use Rattle.document.specs.Lookup.{same}
 use Rattle.document.specs.Posology.{Posology}
@@ -19,23 +19,11 @@ use Rattle.document.specs.Answer.{taken, read}
 use Rattle.document.specs.Write.{write, fitting, isTableOf, readable, greatestRoom}
 use Rattle.document.specs.declared.table.Table.{Table}
 use Rattle.document.proofs.Good.{and-both, and-left, and-right}
+use Rattle.document.proofs.Same.{same-refl, same-equal}
 use Rattle.document.proofs.Spelled.{accepted-spells}
 use Rattle.document.proofs.WordsBack.{words-one}
 use Rattle.document.proofs.Untabled.{untabled}
 use Rattle.document.proofs.PlainTexts.{plain-reads}
-
-same-refl : (s : List ℕ) → same s s ≡ true
-same-refl [] = refl
-same-refl (b ∷ s) = and-both (eq-eqb b b refl) (same-refl s)
-
-pub same-equal : (s t : List ℕ) → same s t ≡ true → s ≡ t
-same-equal [] [] h = refl
-same-equal [] (c ∷ t) h = absurd (false≢true h)
-same-equal (b ∷ s) [] h = absurd (false≢true h)
-same-equal (b ∷ s) (c ∷ t) h =
-    let e : b ≡ c = eqb-true b c (and-left (eqb b c) (same s t) h) in
-    let f : s ≡ t = same-equal s t (and-right (eqb b c) (same s t) h) in
-    ap (λ (x : ℕ). x ∷ s) e ∙ ap (λ (x : List ℕ). c ∷ x) f
 
 is-own-table : (purpose : ℕ) (p : Posology) (behind : List ℕ) → valid purpose p ≡ true → Fits greatestRoom p → isTableOf purpose (tableOf p) (strings p ++ behind) p ≡ true
 is-own-table purpose p behind v f =

@@ -5,6 +5,7 @@ pub mod Date
 pub mod Schema
 pub mod Lookup
 pub mod Visit
+pub mod At
 pub mod Valid
 pub mod Table
 pub mod Spell

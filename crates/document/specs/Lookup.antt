@@ -1,22 +1,16 @@
 -- Members looked up by their names (document 01, rows 5 and 6).
 use mathlib.Core.List.{List, [], _∷_}
-use mathlib.Core.Bool.{Bool, true, false, not, _&&_, _||_}
+use mathlib.Core.Bool.{Bool, true, false, not, _||_}
 use mathlib.Core.Option.{Option, none, some}
 use Prim.Native.Nat.{ℕ}
-use lib.Dec.{eqb}
 use Rattle.json.specs.Tree.{Place}
+pub use Rattle.moving.specs.Read.{same}
 
 -- A member: the place of its name's quote, its name, and what is made of its value.
 pub record Entry {ℓ} (A : Type ℓ) : Type ℓ where
   pub quote : Place
   pub name : List ℕ
   pub value : A
-
-abbrev pub same : List ℕ → List ℕ → Bool
-same [] [] = true
-same [] (b ∷ bs) = false
-same (a ∷ as′) [] = false
-same (a ∷ as′) (b ∷ bs) = eqb a b && same as′ bs
 
 abbrev pub has : List ℕ → List (List ℕ) → Bool
 has n [] = false

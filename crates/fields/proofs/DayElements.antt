@@ -23,11 +23,10 @@ use Rattle.document.specs.Schema as S
 use Rattle.document.specs.Schema.{aNumber, integer}
 use Rattle.document.specs.Visit.{Left, Outcome, done, refuse, bind, guard, whole, Value as Waiting, valueOf, valuesOf, each, distinct, ascending, isEmpty, needed}
 use Rattle.document.specs.Lookup.{Found}
-use Rattle.fields.specs.At.{At}
+use Rattle.document.specs.At.{At, Slot}
 use Rattle.fields.specs.Fields.{Refuses, ReadsAt, Listing, FindsList, ListNeeded}
 use Rattle.fields.specs.Dates.{ReadsDays}
 use Rattle.fields.specs.DaySets.{bits, toldDays, daysOf, TellsDays, DaysIn}
-use Rattle.fields.specs.Names.{Slot}
 use Rattle.fields.specs.declared.field.Found.{Found as FoundAt}
 use Rattle.fields.specs.declared.field.Found.the-variants as A
 use Rattle.fields.specs.declared.field.Field.{Field}

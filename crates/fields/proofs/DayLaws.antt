@@ -6,7 +6,7 @@ use mathlib.Core.Bool.{Bool, true, false, cond, not, _&&_, _||_, false≢true}
 use lib.ListN.{length, getD, set, replicate}
 use lib.Seq.{getD-set-same, getD-set-other}
 use lib.Dec.{eqb, leb}
-use borrow.Author.Tests.{eq-eqb, ne-eqb, eqb-true, eqb-false}
+use borrow.Author.Tests.{ne-eqb, eqb-true, eqb-false}
 use native.Mathlib.Nat.{pow-suc, pow-le-pow-right}
 use native.Mathlib.Numerals.{add-one}
 use native.Mathlib.Omega.{arith}
@@ -14,6 +14,8 @@ use Rattle.json.specs.Rows.{choose}
 use Rattle.document.specs.Date.{among}
 use Rattle.document.specs.Table.{daySet}
 use Rattle.document.specs.Visit.{distinct, inserted, ascending}
+use Rattle.document.proofs.Good.{and-left, and-right}
+use Rattle.document.proofs.Same.{eqb-sym}
 use Rattle.fields.specs.DaySets.{bits}
 
 -- A set is below the next power.
@@ -80,14 +82,6 @@ unfolding listBits
 no-bits zero = refl
 no-bits (suc n) = rw (no-bits n)
 
-and-left : (a b : Bool) → (a && b) ≡ true → a ≡ true
-and-left true b e = refl
-and-left false b e = e
-
-and-right : (a b : Bool) → (a && b) ≡ true → b ≡ true
-and-right true b e = e
-and-right false b e = absurd (false≢true e)
-
 not-is : (a : Bool) → not a ≡ true → a ≡ false
 not-is true e = absurd (false≢true e)
 not-is false e = refl
@@ -117,13 +111,6 @@ among-more k (c ∷ ds) d = rw (among-more k ds d) (go (eqb k c))
     go : (t : Bool) → (t || (among k ds || eqb k d)) ≡ ((t || among k ds) || eqb k d)
     go true = refl
     go false = refl
-
-eqb-sym : (a b : ℕ) → eqb a b ≡ eqb b a
-eqb-sym a b = go (eqb a b) refl
-  where
-    go : (t : Bool) → eqb a b ≡ t → t ≡ eqb b a
-    go true e = sym (eq-eqb b a (sym (eqb-true a b e)))
-    go false e = sym (ne-eqb b a (λ h. eqb-false a b e (sym h)))
 
 pub distinct-more : (ds : List ℕ) (d : ℕ) → not (distinct (ds ++ (d ∷ []))) ≡ (not (distinct ds) || among d ds)
 distinct-more [] d = refl

@@ -1,17 +1,4 @@
 -- What the proofs of several functions use.
-mod Packing
-mod Numbered
-mod Counting
-mod Letters
-mod Hashing
-mod Searching
-mod Table
-mod Before
-mod Rest
-mod Slots
-mod Settling
-mod Tabling
-mod Unknown
 mod ValueKinds
 mod Values
 mod DateLaws

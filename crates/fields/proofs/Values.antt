@@ -24,8 +24,7 @@ use Rattle.document.specs.Lookup.{Found, one}
 use Rattle.document.specs.Schema as S
 use Rattle.document.specs.Schema.{Shape, NumberShape, integer, decimal, StringShape, ListShape, Family, OfFamily}
 use Rattle.document.specs.Visit.{Value as Waiting, Left, Outcome, done, refuse, guard, present, valueOf, needed, optional, whole, millionths, chars, emptyFor, isEmpty}
-use Rattle.fields.specs.At.{At}
-use Rattle.fields.specs.Names.{Slot, empty, filled}
+use Rattle.document.specs.At.{At, Slot, empty, filled}
 use Rattle.fields.specs.Fields.{Refuses, Reads, ReadsAt, ReadsNeeded, ReadsGiven, ReadsOptional, ReadsFlag, flagNumber, Child, FindsObject, ObjectAt, ObjectNeeded, Listing, ListNeeded, ReadsText, Perhaps, ReadsOptionalText}
 use Rattle.fields.specs.Reading.{wholeAt, millionthsAt, roomed, isObject, isArray, isText, isNumber, isNull, flagAt}
 use Rattle.fields.specs.declared.field.Field.{Field}

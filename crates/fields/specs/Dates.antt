@@ -10,7 +10,7 @@ use Rattle.document.specs.Lookup.{Found}
 use Rattle.document.specs.Schema.{aList, days}
 use Rattle.document.specs.Table.{dateCell, daySet}
 use Rattle.document.specs.Visit.{Left, Outcome, done, Value, needed}
-use Rattle.fields.specs.Names.{Slot}
+use Rattle.document.specs.At.{Slot}
 use Rattle.fields.specs.Fields.{Refuses}
 use Rattle.fields.specs.declared.date.Dated.{Dated}
 use Rattle.fields.specs.declared.date.Dated.the-variants as D

@@ -6,7 +6,7 @@ use lib.ListN.{getD}
 use Rattle.json.specs.Tree.{Place, Elements, list}
 use Rattle.document.specs.Schema.{aNumber, integer}
 use Rattle.document.specs.Visit.{Left, Outcome, done, bind, guard, Value, valuesOf, each, distinct, ascending}
-use Rattle.fields.specs.At.{At}
+use Rattle.document.specs.At.{At}
 use Rattle.fields.specs.Fields.{Refuses}
 use Rattle.fields.specs.Dates.{DaySet}
 use Rattle.fields.specs.declared.field.Field.{Field}

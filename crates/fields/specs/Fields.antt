@@ -13,8 +13,7 @@ use Rattle.document.specs.Table.{dateCell}
 use Rattle.document.specs.Schema.{Family, NumberShape, aNumber, aString, anObject, aList, aFlag, text as asText, date as asDate, time as asTime, ListShape, OfFamily}
 use Rattle.document.specs.Visit.{Left, roomLess, Outcome, done, refuse, Value, valueOf, entriesOf, valuesOf, needed, optional, members, elements}
 use Rattle.document.specs.declared.table.Date.{Date}
-use Rattle.fields.specs.At.{At}
-use Rattle.fields.specs.Names.{Slot}
+use Rattle.document.specs.At.{At, Slot}
 use Rattle.fields.specs.declared.field.Field.{Field}
 use Rattle.fields.specs.declared.field.Field.the-variants as F
 use Rattle.fields.specs.declared.field.Found.{Found as FoundAt}

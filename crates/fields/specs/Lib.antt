@@ -1,5 +1,3 @@
-pub mod At
-pub mod Names
 pub mod Fields
 pub mod Reading
 pub mod Dates

@@ -1,5 +1,4 @@
-// The members of an object as document 01 names them, and their values: numbers, strings, dates, days.
+// The values of an object's members: numbers, strings, dates, days.
 pub mod date;
 pub mod days;
 pub mod field;
-pub mod names;

@@ -17,7 +17,8 @@ use Rattle.document.specs.Table.{dateCell}
 use Rattle.document.specs.Valid.{detailStrings}
 use Rattle.document.specs.Visit.{Left, Outcome, bind, Value, needed, optional, fields}
 use Rattle.document.specs.declared.table.Date.{Date}
-use Rattle.fields.specs.Names.{Slot, Once, nameAt}
+use Rattle.document.specs.At.{Slot}
+use Rattle.names.specs.Names.{Once, nameAt}
 use Rattle.fields.specs.Fields.{Refuses, Given, ReadsGiven, ReadsOptional}
 use Rattle.visits.specs.Visiting.{leftOf, Did, VisitedIn, DetailAt, VisitsNeededIn}
 use Rattle.visits.specs.Detail.{noneUsed}

@@ -14,16 +14,16 @@ use Rattle.document.specs.Lookup.{Entry, find, unknown}
 use Rattle.document.specs.Schema.{Rows, may, aString, date, aFlag, aPosology, rowsOf, posologyRows, names}
 use Rattle.document.specs.Visit.{Left, Outcome, unless, Value, entriesOf, optional, fields, members}
 use Rattle.document.specs.declared.table.Date.{Date}
-use Rattle.fields.specs.At.{At}
-use Rattle.fields.specs.Names.{Slot, Once, nameAt, rowNames, Tells}
+use Rattle.document.specs.At.{At, Slot}
+use Rattle.names.specs.Names.{Once, nameAt, rowNames, Tells}
 use Rattle.fields.specs.Fields.{Refuses, Dated, Given, ReadsDate, ReadsFlag, ReadsGiven, flagNumber}
 use Rattle.opening.specs.Opens.{OpensAs}
 use Rattle.visits.specs.Visiting.{leftOf}
 use Rattle.visits.specs.Detail.{noneUsed}
 use Rattle.heads.specs.Heads.{HeadReads}
 use Rattle.heads.specs.HeadRows.{poRows, ReadsFromDetail}
-use Rattle.fields.specs.declared.names.Unknown.{Unknown}
-use Rattle.fields.specs.declared.names.Unknown.the-variants as U
+use Rattle.names.specs.declared.Unknown.{Unknown}
+use Rattle.names.specs.declared.Unknown.the-variants as U
 use Rattle.fields.specs.declared.field.Field.{Field}
 use Rattle.fields.specs.declared.field.Field.the-variants as F
 use Rattle.fields.specs.declared.field.DateField.{DateField}

@@ -15,7 +15,8 @@ use Rattle.document.specs.Schema.{aText}
 use Rattle.document.specs.Table.{lengthOf}
 use Rattle.document.specs.Valid.{detailStrings}
 use Rattle.document.specs.Visit.{Outcome, done, guard, Value, optional, fields}
-use Rattle.fields.specs.Names.{Slot, Once, nameAt}
+use Rattle.document.specs.At.{Slot}
+use Rattle.names.specs.Names.{Once, nameAt}
 use Rattle.fields.specs.Fields.{Refuses, ReadsOptionalText}
 use Rattle.visits.specs.Visiting.{leftOf}
 use Rattle.heads.specs.Heads.{PieceOf, HeadReads, RefusedAt}

@@ -15,7 +15,7 @@ use Rattle.numbers.specs.declared.Integer.the-variants as I
 use Rattle.document.specs.Lookup.{Found, one}
 use Rattle.document.specs.Schema.{aNumber, integer}
 use Rattle.document.specs.Visit.{Left, Outcome, done, refuse, present, whole, Value, valueOf, optional}
-use Rattle.fields.specs.Names.{Slot, empty, filled}
+use Rattle.document.specs.At.{Slot, empty, filled}
 use Rattle.document.proofs.Good.{and-right}
 
 abbrev value : Outcome (Option ℕ) → Option ℕ

@@ -15,7 +15,8 @@ use Rattle.document.specs.Table.{dateCell}
 use Rattle.document.specs.Valid.{detailRecords, detailStrings}
 use Rattle.document.specs.Visit.{Left, Outcome, Value, needed, optional, present, fields}
 use Rattle.document.specs.declared.table.Date.{Date}
-use Rattle.fields.specs.Names.{Slot, Once}
+use Rattle.document.specs.At.{Slot}
+use Rattle.names.specs.Names.{Once}
 use Rattle.fields.specs.Fields.{Refuses, Perhaps}
 use Rattle.visits.specs.Visiting.{leftOf, DetailRows}
 use Rattle.visits.specs.Detail.{noneUsed}

@@ -12,7 +12,7 @@ use Rattle.document.specs.Schema.{aPosology}
 use Rattle.document.specs.Table.{dateCell, lengthOf}
 use Rattle.document.specs.Valid.{detailStrings, detailRecords, strings}
 use Rattle.document.specs.Visit.{Outcome, done, members, entriesOf}
-use Rattle.fields.specs.At.{At}
+use Rattle.document.specs.At.{At}
 use Rattle.fields.specs.Fields.{Refuses}
 use Rattle.visits.specs.Visiting.{leftOf, DetailRows}
 use Rattle.visits.specs.Detail.{noneUsed}

@@ -1,8 +1,9 @@
 -- The tree of a text that was walked, as moving about it finds it. Each step moves on, so the length is steps enough.
 use Prim.Native.Nat.{ℕ, zero, suc}
 use mathlib.Core.List.{List, [], _∷_, tail}
-use mathlib.Core.Bool.{true, false}
+use mathlib.Core.Bool.{Bool, true, false, _&&_}
 use lib.ListN.{length}
+use lib.Dec.{eqb}
 use Rattle.json.specs.Rows.{choose}
 use Rattle.json.specs.Byte.{isNumeric, blanked}
 use Rattle.json.specs.Tree.{Place, Tree, object, list, string, number, bool, null, Members, noMember, member, Elements, noElement, element}
@@ -15,6 +16,13 @@ use Rattle.moving.specs.declared.Kind.the-variants.{Object, Array, Text,
 unfoldable pub decoded : Place → List ℕ
 unfolding chars
 decoded s = (chars Plain 0 (tail s)) .bytes
+
+-- Whether two lists of bytes are the same.
+abbrev pub same : List ℕ → List ℕ → Bool
+same [] [] = true
+same [] (b ∷ bs) = false
+same (a ∷ as′) [] = false
+same (a ∷ as′) (b ∷ bs) = eqb a b && same as′ bs
 
 -- The bytes of the number that stands here.
 unfoldable pub written : Place → List ℕ

@@ -1,4 +1,3 @@
 -- What the proofs of several functions use.
-mod Same
 mod Turns
 mod Pairs

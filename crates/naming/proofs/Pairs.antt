@@ -1,19 +1,20 @@
 -- Plain ASCII characters with which two strings begin, and the first byte in which they may differ.
 use Prim.Native.Nat.{ℕ, _+_, _-_, _<_, _≤_}
-use mathlib.Core.Path.{_≡_, sym, _∙_}
+use mathlib.Core.Path.{_≡_, refl, sym, _∙_}
 use mathlib.Core.List.{List}
 use mathlib.Core.Bool.{true, false}
 use lib.ListN.{length, getD}
 use native.Mathlib.Decide.{decLt}
 use native.Mathlib.Omega.{arith}
+use borrow.Author.Tests.{eq-eqb, ne-eqb}
 use Rattle.json.specs.String.{lead, after}
 use Rattle.json.specs.declared.string.Lead.the-variants.{Ascii, Quote}
 use Rattle.json.specs.declared.string.InString.the-variants.{Plain}
-use Rattle.naming.specs.Naming.{same, Paired, First}
+use Rattle.moving.specs.Read.{same}
+use Rattle.naming.specs.Naming.{Paired, First}
 use Rattle.characters.specs.Characters.{plainFrom}
 use Rattle.characters.proofs.Ahead.{rest-closes, rest-ends}
 use Rattle.characters.proofs.Ascii.{ascii-from}
-use Rattle.naming.proofs.Same.{same-goes, same-differs, same-cut, same-none, same-nothing}
 
 pub paired-none : (text : List ℕ) (p q : ℕ) → Paired text p q p
 paired-none text p q = let z : q + (p - p) ≡ q = omega arith in record { ahead = omega arith; inside = omega arith; answer = rw z }
@@ -27,7 +28,7 @@ paired-one {text} {p} {q} {i} {j} a e h l d asc =
     record {
       ahead = omega arith;
       inside = omega arith;
-      answer = rw z (sym (same-goes (getD text i 0) (getD text j 0) _ _ d) ∙ rw (ascii-from text i h asc, ascii-from text j l (rw d at asc)) at t);
+      answer = rw z (rw (ascii-from text i h asc, ascii-from text j l (rw d at asc), eq-eqb (getD text i 0) (getD text j 0) d) at t);
     }
 
 -- ---- the first byte
@@ -47,7 +48,7 @@ module _ (text : List ℕ) (at : ℕ) where
 
 module _ {text : List ℕ} {i j b d : ℕ} (f : First text i b) (g : First text j d) where
   pub firsts-end : b ≡ 256 → b ≡ d → same (plainFrom text i) (plainFrom text j) ≡ true
-  firsts-end e h = rw (f .none e, g .none (sym h ∙ e)) same-nothing
+  firsts-end e h = rw (f .none e, g .none (sym h ∙ e)) refl
 
   pub firsts-differ : (b ≡ 257 → ⊥) → (d ≡ 257 → ⊥) → (b ≡ d → ⊥) → same (plainFrom text i) (plainFrom text j) ≡ false
   firsts-differ x y z = go (decLt b 256) (decLt d 256)
@@ -59,7 +60,7 @@ module _ {text : List ℕ} {i j b d : ℕ} (f : First text i b) (g : First text 
       n = g .most
 
       go : Dec (b < 256) → Dec (d < 256) → same (plainFrom text i) (plainFrom text j) ≡ false
-      go (yes p) (yes q) = rw (f .one p, g .one q) (same-differs _ _ _ _ z)
-      go (yes p) (no q) = rw (f .one p, g .none (omega (arith, n))) (same-cut _ _)
-      go (no p) (yes q) = rw (f .none (omega (arith, m)), g .one q) (same-none _ _)
+      go (yes p) (yes q) = rw (f .one p, g .one q, ne-eqb b d z)
+      go (yes p) (no q) = rw (f .one p, g .none (omega (arith, n))) refl
+      go (no p) (yes q) = rw (f .none (omega (arith, m)), g .one q) refl
       go (no p) (no q) = absurd (z (omega (arith, m, n)))

@@ -1,14 +1,14 @@
 -- Two strings compared byte by byte: what the loop keeps, and how the bytes r and q that `next` gave at c and d take it on. T is what the loop is to answer.
-use mathlib.Core.Path.{_≡_, refl, sym, ap, _∙_}
+use mathlib.Core.Path.{_≡_, refl, ap, _∙_}
 use mathlib.Core.List.{List}
 use mathlib.Core.Bool.{Bool, true, false, not}
 use Prim.Native.Nat.{ℕ}
+use borrow.Author.Tests.{eq-eqb, ne-eqb}
 use Rattle.characters.specs.Characters.{plainFrom, ahead, Sound, Gives}
 use Rattle.characters.specs.declared.Cursor.{Cursor}
 use Rattle.characters.specs.declared.NextByte.{NextByte}
 use Rattle.characters.proofs.Ahead.{gives-one, gives-none}
-use Rattle.naming.specs.Naming.{same}
-use Rattle.naming.proofs.Same.{same-goes, same-differs, same-cut, same-none, same-nothing}
+use Rattle.moving.specs.Read.{same}
 
 pub record Beside (text : List ℕ) (T : Bool) (c d : Cursor) : Type 0 where
   pub sound : Sound c
@@ -24,15 +24,15 @@ module _ {text : List ℕ} {T : Bool} {c d : Cursor} {r q : NextByte} (g : Gives
   both-end e = go (q .some) refl
     where
       go : (t : Bool) → q .some ≡ t → not (q .some) ≡ T
-      go true u = ap not u ∙ sym (same-none _ _) ∙ rw (gives-none g e, gives-one f (ap not u)) at (i .answer)
-      go false u = ap not u ∙ sym same-nothing ∙ rw (gives-none g e, gives-none f (ap not u)) at (i .answer)
+      go true u = ap not u ∙ rw (gives-none g e, gives-one f (ap not u)) at (i .answer)
+      go false u = ap not u ∙ rw (gives-none g e, gives-none f (ap not u)) at (i .answer)
 
   module _ (e : not (r .some) ≡ false) where
     pub other-ends : not (q .some) ≡ true → false ≡ T
-    other-ends u = sym (same-cut _ _) ∙ rw (gives-one g e, gives-none f u) at (i .answer)
+    other-ends u = rw (gives-one g e, gives-none f u) at (i .answer)
 
     pub both-differ : not (q .some) ≡ false → (r .byte ≡ q .byte → ⊥) → false ≡ T
-    both-differ u d = sym (same-differs _ _ _ _ d) ∙ rw (gives-one g e, gives-one f u) at (i .answer)
+    both-differ u d = rw (gives-one g e, gives-one f u, ne-eqb (r .byte) (q .byte) d) at (i .answer)
 
     pub both-on : not (q .some) ≡ false → r .byte ≡ q .byte → Beside text T (r .cursor) (q .cursor)
-    both-on u d = record { sound = g .sound; other = f .sound; answer = sym (same-goes _ _ _ _ d) ∙ rw (gives-one g e, gives-one f u) at (i .answer) }
+    both-on u d = record { sound = g .sound; other = f .sound; answer = rw (gives-one g e, gives-one f u, eq-eqb (r .byte) (q .byte) d) at (i .answer) }

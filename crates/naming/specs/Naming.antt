@@ -1,18 +1,10 @@
--- Names of a walked text, compared by their decoded bytes (`decoded` of Read.antt).
+-- Names of a walked text, compared by their decoded bytes (`decoded` and `same` of Read.antt).
 use Prim.Native.Nat.{ℕ, _+_, _-_, _<_, _≤_}
 use mathlib.Core.Path.{_≡_}
 use mathlib.Core.List.{List, [], _∷_}
-use mathlib.Core.Bool.{Bool, true, false, _&&_}
 use lib.ListN.{length}
-use lib.Dec.{eqb}
+use Rattle.moving.specs.Read.{same}
 use Rattle.characters.specs.Characters.{plainFrom}
-
--- Whether two lists of bytes are the same.
-unfoldable pub same : List ℕ → List ℕ → Bool
-same [] [] = true
-same [] (y ∷ ys) = false
-same (x ∷ xs) [] = false
-same (x ∷ xs) (y ∷ ys) = eqb x y && same xs ys
 
 -- From `p` up to `i` the text has the bytes that stand from `q` on too: both strings are to be compared from there.
 pub record Paired (text : List ℕ) (p q i : ℕ) : Type 0 where

@@ -3,9 +3,9 @@ use json::string::Lead;
 use scan::string;
 ghost use mathlib.Core.Path.{_≡_};
 ghost use lib.ListN.{drop};
-ghost use Rattle.moving.specs.Read.{decoded};
+ghost use Rattle.moving.specs.Read.{decoded, same};
 ghost use Rattle.characters.specs.Characters.{plainFrom};
-ghost use Rattle.naming.specs.Naming.{same, Paired, First};
+ghost use Rattle.naming.specs.Naming.{Paired, First};
 
 // The plain ASCII character at a place where a character or the closing quote may stand, 256 where the string ends there, and 257 where it is to
 // be decoded: two strings mostly differ in plain characters.

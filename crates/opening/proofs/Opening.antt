@@ -13,11 +13,11 @@ use Rattle.document.specs.Bytes.{bytes}
 use Rattle.document.specs.Lookup.{find}
 use Rattle.document.specs.Schema.{Family, typesOf, integer}
 use Rattle.document.specs.Visit.{Left, Outcome, unless, byType, typed, members, entriesOf}
-use Rattle.fields.specs.At.{At}
-use Rattle.fields.specs.Names.{nameAt, Slot, Settles}
+use Rattle.document.specs.At.{At, Slot}
+use Rattle.names.specs.Names.{nameAt, Settles}
 use Rattle.fields.specs.Fields.{Refuses, ReadsNeeded}
 use Rattle.opening.specs.Opens.{OpensTyped, OpensPlain}
-use Rattle.fields.specs.declared.names.Seen.{Seen}
+use Rattle.names.specs.declared.Seen.{Seen}
 use Rattle.opening.specs.declared.opened.Opened.{Opened}
 use Rattle.fields.specs.declared.field.Field.{Field}
 use Rattle.fields.specs.declared.field.Field.the-variants as F

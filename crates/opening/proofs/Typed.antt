@@ -16,7 +16,7 @@ use Rattle.numbers.specs.declared.Integer.the-variants.{Whole, NotCarried, Outs
 use Rattle.document.specs.Lookup.{Found, one}
 use Rattle.document.specs.Schema.{aNumber as anumber, integer}
 use Rattle.document.specs.Visit.{Left, Value as Waiting, Outcome, done, needed, placeOf, whole, valueOf}
-use Rattle.fields.specs.Names.{Slot, empty, filled}
+use Rattle.document.specs.At.{Slot, empty, filled}
 
 -- ---- a value's place is where it stands
 value-place : {t : Tree} {s r : Place} → Value t s r → (valueOf t) .place ≡ s

@@ -9,8 +9,8 @@ use Rattle.document.specs.Bytes.{bytes}
 use Rattle.document.specs.Lookup.{Entry}
 use Rattle.document.specs.Schema.{Family, typesOf, mayStand, mayOpen}
 use Rattle.document.specs.Visit.{Left, guard, Value, entriesOf, members, body}
-use Rattle.fields.specs.At.{At}
-use Rattle.fields.specs.Names.{Once}
+use Rattle.document.specs.At.{At}
+use Rattle.names.specs.Names.{Once}
 use Rattle.fields.specs.Fields.{Refuses}
 use Rattle.opening.specs.declared.opened.Opened.{Opened}
 

@@ -18,7 +18,7 @@ use Rattle.document.specs.Schema.{anObject, aPosology}
 use Rattle.document.specs.Visit.{Value, entriesOf, members, visit}
 use Rattle.document.proofs.Sound.{Utf8Tree}
 use Rattle.document.proofs.Utf8Texts.{value-utf8}
-use Rattle.fields.specs.At.{At}
+use Rattle.document.specs.At.{At}
 use Rattle.visits.specs.Visiting.{leftOf}
 
 -- What the walk tells of a text.

@@ -12,8 +12,8 @@ use Rattle.document.specs.Bytes.{bytes}
 use Rattle.document.specs.Lookup.{Entry, unknown}
 use Rattle.document.specs.Schema.{Family, ListShape, OfFamily, OfList, aTimed, rowsOf, typesOf, isRecord, mayStand, mayOpen, names}
 use Rattle.document.specs.Visit.{Left, recordLess, Outcome, done, refuse, bind, guard, unless, fields, body, members, Value as Waits}
-use Rattle.fields.specs.At.{At}
-use Rattle.fields.specs.Names.{rowNames, Tells}
+use Rattle.document.specs.At.{At}
+use Rattle.names.specs.Names.{rowNames, Tells}
 use Rattle.fields.specs.Fields.{Refuses, Reads, Child, FindsObject, Listing, FindsList}
 use Rattle.opening.specs.Under.{typesUnder}
 use Rattle.opening.specs.Opens.{Opens, OpensAs}
@@ -25,8 +25,8 @@ use Rattle.fields.specs.declared.field.Found.{Found as FoundAt}
 use Rattle.fields.specs.declared.field.Found.the-variants as A
 use Rattle.fields.specs.declared.field.Field.{Field}
 use Rattle.fields.specs.declared.field.Field.the-variants as F
-use Rattle.fields.specs.declared.names.Unknown.{Unknown}
-use Rattle.fields.specs.declared.names.Unknown.the-variants.{None, At as AtQuote}
+use Rattle.names.specs.declared.Unknown.{Unknown}
+use Rattle.names.specs.declared.Unknown.the-variants.{None, At as AtQuote}
 
 -- A refusal passed up: of what reads the same, and of whatever goes on from what is refused.
 pub refuses-as : {A : Type 0} {text : List ℕ} {o o′ : Outcome A} {n p : ℕ} → o ≡ o′ → Refuses text o′ n p → Refuses text o n p

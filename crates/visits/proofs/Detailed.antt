@@ -16,13 +16,13 @@ use Rattle.spelling.proofs.Moved.{elements-in, element-not-end}
 use Rattle.document.specs.Posology as P
 use Rattle.document.specs.Table.{detailRows}
 use Rattle.document.specs.Valid.{timedRecords, detailStrings}
-use Rattle.fields.specs.At.{At}
+use Rattle.document.specs.At.{At, Slot}
 use Rattle.document.specs.Bytes.{bytes}
 use Rattle.document.specs.Lookup.{Entry, Found, find, unknown}
 use Rattle.document.specs.Schema.{Family, Shape, aNumber, anObject, aList, aString, text as asText, aTimed, NumberShape, decimal, fourDecimals, Four, Of, Rows, need, may, aDetail, aSequenceObject, rowsOf, dailyRows, freeTextRows, singleRows, cyclicRows, sequenceRows, posologySequenceRows, pauseRows}
 use Rattle.document.specs.Visit.{Left, roomLess, Outcome, done, refuse, bind, needed, optional, fields, body, decimals, Value, valueOf, valuesOf}
 use Rattle.document.specs.Words.{row, words}
-use Rattle.fields.specs.Names.{rowNames, nameAt, names as allNames, Tells, Slot}
+use Rattle.names.specs.Names.{rowNames, nameAt, names as allNames, Tells}
 use Rattle.fields.specs.Fields.{Refuses, Reads, ReadsAt, ReadsNeeded, Given, ReadsGiven, ReadsOptional, Listing, FindsList, ListNeeded, Texted, ReadsText, Child, FindsObject, ObjectNeeded}
 use Rattle.visits.specs.Visiting.{leftOf, RowsIn, Did, VisitedIn, VisitsNeeded, VisitsBodyIn, TimedRows, DetailRows, DetailAt, Ready}
 use Rattle.opening.specs.Records.{more}
@@ -33,8 +33,8 @@ use Rattle.opening.specs.declared.opened.Opened.{Opened}
 use Rattle.opening.specs.declared.rows.Used.{Used}
 use Rattle.opening.specs.declared.rows.Visit.{Visit}
 use Rattle.opening.specs.declared.rows.Visit.the-variants.{Done, Refused}
-use Rattle.fields.specs.declared.names.Unknown.{Unknown}
-use Rattle.fields.specs.declared.names.Unknown.the-variants.{None}
+use Rattle.names.specs.declared.Unknown.{Unknown}
+use Rattle.names.specs.declared.Unknown.the-variants.{None}
 use Rattle.fields.specs.declared.field.Field.{Field}
 use Rattle.fields.specs.declared.field.Field.the-variants as F
 use Rattle.visits.proofs.Bodies.{Known, refuses-as, refuses-bind, done-bind, body-opens, list-at}

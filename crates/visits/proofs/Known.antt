@@ -9,7 +9,7 @@ use Rattle.document.specs.Posology as P
 use Rattle.document.specs.Lookup.{Entry, find}
 use Rattle.document.specs.Schema.{aTimed, aDosage, anAtTime, anInSegment, integer, decimal, aNumber, aString, anObject, aList, time, days, any-objects, underDays, rowsOf, dosageOnlyRows, timesRows, daySegmentsRows, weekDaysRows, daysOfMonthRows, intervalRows, simpleRows, fromToRows, rangeRows, atTimeRows, inSegmentRows}
 use Rattle.document.specs.Visit.{Left, done, bind, guard, needed, fields, Value}
-use Rattle.fields.specs.Names.{names, nameAt}
+use Rattle.names.specs.Names.{names, nameAt}
 use Rattle.visits.proofs.Bodies.{Known}
 
 -- Dosages

@@ -14,7 +14,7 @@ use Rattle.spelling.proofs.Moved.{first-element, next-after-element, element-no
 use Rattle.spelling.proofs.Shorter.{to-sharp, listed-sharp}
 use Rattle.document.specs.Schema.{Shape, Of}
 use Rattle.document.specs.Visit.{done, bind, each, valueOf, valuesOf, Value as Waits}
-use Rattle.fields.specs.At.{At}
+use Rattle.document.specs.At.{At}
 use Rattle.fields.specs.Fields.{Refuses}
 use Rattle.visits.specs.Visiting.{leftOf, RowsOf, RowsIn, Did, VisitedIn}
 use Rattle.opening.specs.declared.rows.Used.{Used}

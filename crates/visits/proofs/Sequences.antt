@@ -18,9 +18,8 @@ use Rattle.document.specs.Table.{detailRows}
 use Rattle.document.specs.Valid.{detailRecords, objectRecords, objectsRecords, detailStrings, objectStrings, objectsStrings}
 use Rattle.document.specs.Visit.{Left, Outcome, done, refuse, guard, isEmpty, needed, each, members, body, Value, valueOf, valuesOf}
 use Rattle.document.specs.Words.{row, words}
-use Rattle.fields.specs.At.{At}
+use Rattle.document.specs.At.{At, Slot}
 use Rattle.fields.specs.Fields.{Refuses, Listing, FindsObject, ObjectAt}
-use Rattle.fields.specs.Names.{Slot}
 use Rattle.opening.specs.Opens.{Opens}
 use Rattle.visits.specs.Visiting.{leftOf, RowsIn, Did, VisitedIn, VisitsObjectIn, VisitsNeededIn, VisitsEachIn, DetailRows, ObjectRows, ObjectsRows, DetailAt, ObjectIn, ObjectsIn}
 use Rattle.opening.specs.Records.{more}

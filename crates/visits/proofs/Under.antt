@@ -8,7 +8,7 @@ use Rattle.document.specs.Date.{among}
 use Rattle.document.specs.Lookup.{Entry, Found}
 use Rattle.document.specs.Schema.{aTimed, aList, days}
 use Rattle.document.specs.Visit.{Left, members, needed, Value as Waits}
-use Rattle.fields.specs.Names.{Slot}
+use Rattle.document.specs.At.{Slot}
 use Rattle.fields.specs.Fields.{Refuses}
 use Rattle.fields.specs.Dates.{DaySet, ReadsDays}
 use Rattle.opening.specs.Under.{typesUnder}

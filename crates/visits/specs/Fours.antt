@@ -7,7 +7,7 @@ use Rattle.json.specs.Tree.{Place, Elements, list}
 use Rattle.document.specs.Schema.{Four}
 use Rattle.document.specs.Visit.{valuesOf, decimals}
 use Rattle.document.specs.Words.{words, rows}
-use Rattle.fields.specs.At.{At}
+use Rattle.document.specs.At.{At}
 use Rattle.visits.specs.Visiting.{leftOf, RowsIn, VisitedIn}
 use Rattle.opening.specs.Records.{more}
 use Rattle.opening.specs.declared.rows.Used.{Used}

@@ -15,8 +15,8 @@ use Rattle.document.specs.Visit.{Left, Outcome, done, Value, entriesOf, valuesO
 use Rattle.document.specs.Table.{timesRows, segmentsRows, timedRows, detailRows, dosageRow}
 use Rattle.document.specs.Valid.{detailRecords, objectsRecords, detailStrings, objectStrings, objectsStrings}
 use Rattle.document.specs.Words.{words, row, rows, allWords}
-use Rattle.fields.specs.At.{At}
-use Rattle.fields.specs.Names.{Slot, Once}
+use Rattle.document.specs.At.{At, Slot}
+use Rattle.names.specs.Names.{Once}
 use Rattle.fields.specs.Fields.{Refuses}
 use Rattle.opening.specs.Under.{typesUnder}
 use Rattle.opening.specs.declared.rows.Used.{Used}

@@ -1,7 +1,7 @@
 -- The bytes ahead of both cursors are compared. The measure is what is ahead of the first.
 use borrow.Author.Needs.{needs}
 use lib.ListN.{length}
-use Rattle.naming.specs.Naming.{same}
+use Rattle.moving.specs.Read.{same}
 use Rattle.characters.specs.Characters.{plainFrom, ahead}
 use Rattle.characters.proofs.Ahead.{ahead-falls}
 use Rattle.naming.proofs.Turns.{Beside, beside-both, both-end, other-ends, both-differ, both-on}

@@ -7,7 +7,7 @@ use lib.ListN.{length}
 use Rattle.json.specs.Tree.{Place, Elements, list}
 use Rattle.document.specs.Schema.{anObject, anAtTime}
 use Rattle.document.specs.Visit.{valueOf, valuesOf}
-use Rattle.fields.specs.At.{At}
+use Rattle.document.specs.At.{At}
 use Rattle.visits.specs.Visiting.{leftOf, Ready, TimesRows, AtTimeRows}
 use Rattle.visits.proofs.Rowed.{did-as, visited-done, visited-refused, kept-refused, kept-done}
 use Rattle.visits.proofs.Bodies.{finds-child, finds-refused, refuses-as}

@@ -12,8 +12,8 @@ use Rattle.document.specs.Bytes.{bytes}
 use Rattle.document.specs.Posology as P
 use Rattle.document.specs.Schema.{need, gives, aDuration, aTimeUnit, anObject, aList, some-objects, aDetail, aSequenceObject, rowsOf, sequenceRows, posologySequenceRows}
 use Rattle.document.specs.Visit.{entriesOf, valuesOf, body}
-use Rattle.fields.specs.At.{At}
-use Rattle.fields.specs.Names.{nameAt, names}
+use Rattle.document.specs.At.{At}
+use Rattle.names.specs.Names.{nameAt, names}
 use Rattle.visits.specs.Visiting.{leftOf, DetailAt, ObjectIn, ObjectsIn}
 use Rattle.opening.specs.Records.{more}
 use Rattle.visits.proofs.Bodies.{refuses-as, object-at, body-unknown, body-full}
@@ -51,7 +51,7 @@ use Rattle.fields.proofs.field.integer_field.Reads as integer-field-reads
 use Rattle.fields.proofs.field.list_field.Reads as list-field-reads
 use Rattle.fields.proofs.field.object_field.Reads as object-field-reads
 use Rattle.fields.proofs.field.object_value.Reads as object-value-reads
-use Rattle.fields.proofs.names.unknown_name.Reads as unknown-name-reads
+use Rattle.names.proofs.unknown_name.Reads as unknown-name-reads
 use Rattle.opening.proofs.opened.is_full.Reads as is-full-reads
 use Rattle.opening.proofs.opened.open_typed.Reads as open-typed-reads
 use Rattle.opening.proofs.rows.above.Reads as above-reads

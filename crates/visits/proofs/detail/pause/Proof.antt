@@ -5,7 +5,7 @@ use lib.ListN.{drop}
 use Rattle.document.specs.Posology as P
 use Rattle.document.specs.Schema.{need, gives, aDuration, aTimeUnit, rowsOf, pauseRows}
 use Rattle.document.specs.Visit.{entriesOf}
-use Rattle.fields.specs.Names.{nameAt, names}
+use Rattle.names.specs.Names.{nameAt, names}
 use Rattle.visits.specs.Visiting.{leftOf, ObjectIn, ObjectRows}
 use Rattle.document.specs.Valid.{objectStrings}
 use Rattle.opening.specs.Records.{more}

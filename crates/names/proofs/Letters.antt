@@ -1,0 +1,76 @@
+-- The letters of a name, packed one after the other.
+use Prim.Native.Nat.{ℕ, _+_, _<_}
+use mathlib.Core.Path.{_≡_, refl, sym, ap, subst, _∙_}
+use mathlib.Core.List.{List, [], _∷_, _++_, append-assoc, append-nil}
+use mathlib.Core.Bool.{Bool, true, false, not, cond, false≢true}
+use lib.ListN.{length, getD, length-append}
+use lib.Dec.{ltb}
+use native.Mathlib.Omega.{arith}
+use borrow.Author.Tests.{not-false}
+use Rattle.json.specs.Rows.{look}
+use Rattle.json.specs.String.{isAscii, lead, after}
+use Rattle.json.specs.declared.string.Lead.{Lead}
+use Rattle.json.specs.declared.string.Lead.the-variants.{Ascii}
+use Rattle.json.specs.declared.string.InString.the-variants.{Plain}
+use Rattle.characters.specs.Characters.{plainFrom, ahead, Sound}
+use Rattle.characters.specs.declared.Cursor.{Cursor}
+use Rattle.characters.proofs.Ahead.{rest-closes}
+use Rattle.characters.proofs.Ascii.{ascii-from}
+use Rattle.names.specs.Names.{Packs}
+use Rattle.names.specs.declared.Packed.{Packed}
+
+-- n letters of a name are packed, and the rest is ahead.
+pub record Letters (bytes : List ℕ) (p : Packed) (n : ℕ) (rest : List ℕ) : Type 0 where
+  pub name : List ℕ
+  pub packs : Packs name p
+  pub size : length name ≡ n
+  pub whole : name ++ rest ≡ bytes
+
+pub letters-none : {bytes rest : List ℕ} {p : Packed} → Packs [] p → rest ≡ bytes → Letters bytes p 0 rest
+letters-none k e = record { name = []; packs = k; size = refl; whole = e }
+
+module _ {bytes rest : List ℕ} {p : Packed} {n : ℕ} (l : Letters bytes p n rest) where
+  pub letters-end : rest ≡ [] → Packs bytes p
+  letters-end e =
+      let w : l .name ≡ bytes = sym (append-nil (l .name)) ∙ rw e at (l .whole) in
+      subst (λ x. Packs x p) w (l .packs)
+
+  pub letters-few : n + length rest ≡ length bytes
+  letters-few = omega (arith, l .size, length-append (l .name) rest, ap length (l .whole))
+
+  pub letters-on : {b : ℕ} {s : List ℕ} {r : Packed} → rest ≡ b ∷ s → ((name : List ℕ) → Packs name p → length name ≡ n → Packs (name ++ b ∷ []) r) → Letters bytes r (n + 1) s
+  letters-on {b} {s} e f =
+      record {
+        name = l .name ++ b ∷ [];
+        packs = f (l .name) (l .packs) (l .size);
+        size = omega (arith, l .size, length-append (l .name) (b ∷ []));
+        whole = append-assoc (l .name) (b ∷ []) s ∙ rw e at (l .whole);
+      }
+
+-- ---- decoded
+pub record Decodes (text bytes : List ℕ) (p : Packed) (n : ℕ) (c : Cursor) : Type 0 where
+  pub sound : Sound c
+  pub letters : Letters bytes p n (ahead text c)
+
+-- ---- plain ASCII letters
+rows : (a b c d e f : Bool) (o p q r x : Lead) → cond a false (cond b true (cond c false (cond d true (cond e false (cond f true false))))) ≡ true
+    → cond a o (cond b x (cond c p (cond d x (cond e q (cond f x r))))) ≡ x
+rows true b c d e f o p q r x h = absurd (false≢true h)
+rows false true c d e f o p q r x h = refl
+rows false false true d e f o p q r x h = absurd (false≢true h)
+rows false false false true e f o p q r x h = refl
+rows false false false false true f o p q r x h = absurd (false≢true h)
+rows false false false false false true o p q r x h = refl
+rows false false false false false false o p q r x h = absurd (false≢true h)
+
+ascii-lead : (b : ℕ) → isAscii b ≡ true → lead b ≡ Ascii
+unfolding isAscii lead look
+ascii-lead b e = rows (ltb b 32) (ltb b 34) (ltb b 35) (ltb b 92) (ltb b 93) (ltb b 128) _ _ _ _ Ascii e
+
+module _ (text : List ℕ) (i : ℕ) (h : i < length text) where
+  pub plain-on : not (isAscii (getD text i 0)) ≡ false → plainFrom text i ≡ getD text i 0 ∷ plainFrom text (i + 1)
+  plain-on e = ascii-from text i h (ascii-lead _ (not-false _ e))
+
+  pub plain-ends : getD text i 0 ≡ 34 → plainFrom text i ≡ []
+  unfolding after lead look
+  plain-ends e = rest-closes text Plain 0 i h (rw e)

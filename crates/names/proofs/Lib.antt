@@ -1,0 +1,14 @@
+-- What the proofs of several functions use.
+mod Packing
+mod Numbered
+mod Counting
+mod Letters
+mod Hashing
+mod Searching
+mod Table
+mod Before
+mod Rest
+mod Slots
+mod Settling
+mod Tabling
+mod Unknowns
