@@ -1,20 +1,19 @@
 // The table made of the words that were read, and the strings laid into the lent buffer: both after acceptance alone.
 use document::table::Head;
 use document::table::Kind;
+use document::table::RECORDS;
 use document::table::Record;
 use document::table::Table;
 use document::table::Text;
+use document::table::WORDS;
 use heads::head::HeadRead;
 use heads::head::Piece;
-use opening::rows::RECORDS;
 ghost use mathlib.Core.Path.{_≡_};
 ghost use mathlib.Core.List.{_++_};
 ghost use Prim.Native.Nat.{_-_, _≤_};
 ghost use lib.ListN.{replicate};
 ghost use Rattle.document.specs.Table.{noRecord};
 ghost use Rattle.building.specs.Built.{recordsOf, pieceCell, headCells, built, laidRows, laidPiece, stringsLaid};
-
-pub const WORDS: usize = 384;
 
 fn records_of(words: &[u64; WORDS], count: usize) -> [Record; RECORDS]
     requires { ⌜ count ≤ 64 ⌝ }

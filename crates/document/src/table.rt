@@ -2,6 +2,9 @@
 
 pub const RECORDS: usize = 64;
 
+// Six a record: its tag, the records below it, four values.
+pub const WORDS: usize = 384;
+
 // A string's bytes in the text buffer; both are 0 where it is absent.
 pub struct Text {
     pub start: usize,

@@ -1,6 +1,7 @@
 // The text of a record or of a head field: that part of the lent text buffer itself (document 01, "What the part does").
 use document::table::HeadText;
 use document::table::Kind;
+use document::table::RECORDS;
 use document::table::Table;
 use document::table::Text;
 ghost use mathlib.Core.Path.{_≡_};
@@ -30,7 +31,7 @@ pub fn record_text(t: Table, i: usize, strings: &[u8]) -> &[u8]
     ensures bytes { λ r. ⌜ now r ≡ recordText t i (now (strings .entry)) ⌝ }
     ensures place { λ r. ⌜ (r .ptr .0 ≡ strings .entry .ptr .0) × (r .ptr .1 ≡ strings .entry .ptr .1 + recordAt t i (now (strings .entry))) ⌝ }
 {
-    if 64 <= i {
+    if RECORDS <= i {
         return &strings[..0];
     }
     let records = t.records;

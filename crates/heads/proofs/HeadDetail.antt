@@ -28,9 +28,9 @@ use Rattle.fields.specs.declared.field.Field.{Field}
 use Rattle.fields.specs.declared.field.Field.the-variants as F
 use Rattle.heads.specs.declared.head.Piece.{Piece}
 use Rattle.heads.specs.declared.head.HeadRead.{HeadRead}
-use Rattle.opening.specs.declared.rows.Used.{Used}
-use Rattle.opening.specs.declared.rows.Visit.{Visit}
-use Rattle.opening.specs.declared.rows.Visit.the-variants as Vs
+use Rattle.records.specs.declared.rows.Used.{Used}
+use Rattle.records.specs.declared.rows.Visit.{Visit}
+use Rattle.records.specs.declared.rows.Visit.the-variants as Vs
 use Rattle.visits.proofs.Bodies.{refuses-as, refuses-bind, done-bind}
 use Rattle.visits.proofs.Sequences.{detail-length}
 use Rattle.heads.proofs.Meals.{given-most}

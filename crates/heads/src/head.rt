@@ -1,5 +1,6 @@
 // The head of a posology (document 01, "Objects": Posology).
 use document::table::Date;
+use document::table::WORDS;
 use fields::date;
 use fields::field;
 use fields::field::DateField;
@@ -17,9 +18,8 @@ use names::ROA;
 use names::UNIT;
 use names::Unknown;
 use opening::opened;
-use opening::rows::Used;
-use opening::rows::Visit;
-use opening::rows::WORDS;
+use records::rows::Used;
+use records::rows::Visit;
 use visits::detail;
 ghost use mathlib.Core.Path.{_≡_};
 ghost use Prim.Native.Nat.{ℕ, _≤_};

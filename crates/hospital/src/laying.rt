@@ -1,5 +1,5 @@
 // What was read, laid into the lent area without a table between them.
-use building::WORDS;
+use document::table::WORDS;
 use heads::head::HeadRead;
 ghost use mathlib.Core.Path.{_≡_};
 ghost use mathlib.Core.Bool.{cond};

@@ -1,6 +1,6 @@
 // One posology text into the lent area.
 use crate::laying;
-use building::WORDS;
+use document::table::WORDS;
 ghost use mathlib.Core.Path.{_≡_};
 ghost use lib.ListN.{length};
 ghost use Rattle.document.specs.Answer.{bufferAfter};

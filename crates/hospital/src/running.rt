@@ -1,7 +1,7 @@
 // The first posology of a run into the lent area.
 use crate::laying;
-use building::WORDS;
 use document::table::NextAnswer;
+use document::table::WORDS;
 ghost use mathlib.Core.Path.{_≡_};
 ghost use lib.ListN.{length};
 ghost use Rattle.document.specs.Answer.{nextBufferAfter};

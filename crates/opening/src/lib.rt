@@ -1,4 +1,2 @@
-// What every object's visit begins and ends with: its names and type, the types that may stand there, and its record.
-pub mod allowed;
+// What every object's visit begins with: its names and its type.
 pub mod opened;
-pub mod rows;

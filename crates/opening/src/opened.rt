@@ -1,6 +1,4 @@
-// An object as far as its type: names twice (6), its t (7, 4, 8, 9), then the records' number (15).
-use crate::rows::RECORDS;
-use crate::rows::Used;
+// An object as far as its type: names twice (6), then its t (7, 4, 8, 9).
 use fields::field;
 use fields::field::Field;
 use names::NAMES;
@@ -8,7 +6,6 @@ use names::T;
 ghost use mathlib.Core.Path.{_≡_};
 ghost use mathlib.Core.Bool.{true};
 ghost use Prim.Native.Nat.{_<_};
-ghost use lib.Dec.{leb};
 ghost use Rattle.opening.specs.Opens.{OpensTyped, OpensPlain};
 
 // The refusal of a name that stands twice: before that of an unknown one.
@@ -75,10 +72,4 @@ pub fn open_plain(text: &[u8], at: usize) -> Opened
         members: seen.members,
         slots: slots,
     }
-}
-
-pub fn is_full(used: Used) -> bool
-    ensures { λ r. ⌜ r ≡ leb 64 (used .records) ⌝ }
-{
-    RECORDS <= used.records
 }

@@ -1,10 +1,9 @@
 // The words of record i: its tag, the records below it and four values.
+use document::table::RECORDS;
 ghost use mathlib.Core.Path.{_≡_};
 ghost use Prim.Native.Nat.{_+_, _*_, _<_, _≤_};
 ghost use lib.ListN.{getD};
 ghost use Rattle.words.specs.Standing.{tagAt, belowAt, aAt, bAt, cAt, dAt};
-
-const RECORDS: usize = 64;
 
 fn word(words: &[u64], at: usize) -> u64
     ensures { λ r. ⌜ r ≡ getD (now (words .entry)) at 0 ⌝ }

@@ -1,8 +1,8 @@
 // Reading the first posology of a run (document 01, "Answers by number", the last paragraph).
 use crate::reader;
-use building::WORDS;
 use document::table::NextAnswer;
 use document::table::NextReading;
+use document::table::WORDS;
 use heads::head;
 use heads::head::HeadRead;
 use texts::FirstText;

@@ -1,16 +1,16 @@
 // Reading one posology text (document 01, "What the part does" and "Answers by number").
-use building::WORDS;
 use document::table::Answer;
 use document::table::Date;
 use document::table::Head;
 use document::table::Kind;
+use document::table::RECORDS;
 use document::table::Reading;
 use document::table::Record;
 use document::table::Table;
 use document::table::Text;
+use document::table::WORDS;
 use heads::head;
 use heads::head::HeadRead;
-use opening::rows::RECORDS;
 use texts::OneText;
 ghost use mathlib.Core.Path.{_≡_};
 ghost use lib.ListN.{length};

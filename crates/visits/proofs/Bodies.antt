@@ -15,11 +15,11 @@ use Rattle.document.specs.Visit.{Left, recordLess, Outcome, done, refuse, bind,
 use Rattle.document.specs.At.{At}
 use Rattle.names.specs.Names.{rowNames, Tells}
 use Rattle.fields.specs.Fields.{Refuses, Reads, Child, FindsObject, Listing, FindsList}
-use Rattle.opening.specs.Under.{typesUnder}
+use Rattle.records.specs.Under.{typesUnder}
 use Rattle.opening.specs.Opens.{Opens, OpensAs}
 use Rattle.visits.specs.Visiting.{leftOf, OpensUnder}
-use Rattle.opening.specs.Records.{more}
-use Rattle.opening.specs.declared.rows.Used.{Used}
+use Rattle.records.specs.Records.{more}
+use Rattle.records.specs.declared.rows.Used.{Used}
 use Rattle.opening.specs.declared.opened.Opened.{Opened}
 use Rattle.fields.specs.declared.field.Found.{Found as FoundAt}
 use Rattle.fields.specs.declared.field.Found.the-variants as A

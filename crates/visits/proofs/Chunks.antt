@@ -10,8 +10,8 @@ use Rattle.document.specs.Table.{daySet, dosageRow, timesRows, segmentsRows, ti
 use Rattle.document.specs.Visit.{Outcome}
 use Rattle.document.specs.Words.{words, row, rows, allWords}
 use Rattle.visits.specs.Visiting.{RowsOf, Did}
-use Rattle.opening.specs.Records.{more}
-use Rattle.opening.specs.declared.rows.Used.{Used}
+use Rattle.records.specs.Records.{more}
+use Rattle.records.specs.declared.rows.Used.{Used}
 use Rattle.visits.proofs.Rowed.{count-below}
 
 -- How many words each value takes: six a record.

@@ -25,14 +25,14 @@ use Rattle.document.specs.Words.{row, words}
 use Rattle.names.specs.Names.{rowNames, nameAt, names as allNames, Tells}
 use Rattle.fields.specs.Fields.{Refuses, Reads, ReadsAt, ReadsNeeded, Given, ReadsGiven, ReadsOptional, Listing, FindsList, ListNeeded, Texted, ReadsText, Child, FindsObject, ObjectNeeded}
 use Rattle.visits.specs.Visiting.{leftOf, RowsIn, Did, VisitedIn, VisitsNeeded, VisitsBodyIn, TimedRows, DetailRows, DetailAt, Ready}
-use Rattle.opening.specs.Records.{more}
+use Rattle.records.specs.Records.{more}
 use Rattle.visits.specs.Kept.{Grown}
 use Rattle.visits.specs.Room.{KeptIn}
 use Rattle.visits.specs.Fours.{FourIn}
 use Rattle.opening.specs.declared.opened.Opened.{Opened}
-use Rattle.opening.specs.declared.rows.Used.{Used}
-use Rattle.opening.specs.declared.rows.Visit.{Visit}
-use Rattle.opening.specs.declared.rows.Visit.the-variants.{Done, Refused}
+use Rattle.records.specs.declared.rows.Used.{Used}
+use Rattle.records.specs.declared.rows.Visit.{Visit}
+use Rattle.records.specs.declared.rows.Visit.the-variants.{Done, Refused}
 use Rattle.names.specs.declared.Unknown.{Unknown}
 use Rattle.names.specs.declared.Unknown.the-variants.{None}
 use Rattle.fields.specs.declared.field.Field.{Field}

@@ -17,9 +17,9 @@ use Rattle.document.specs.Visit.{done, bind, each, valueOf, valuesOf, Value as 
 use Rattle.document.specs.At.{At}
 use Rattle.fields.specs.Fields.{Refuses}
 use Rattle.visits.specs.Visiting.{leftOf, RowsOf, RowsIn, Did, VisitedIn}
-use Rattle.opening.specs.declared.rows.Used.{Used}
-use Rattle.opening.specs.declared.rows.Visit.{Visit}
-use Rattle.opening.specs.declared.rows.Visit.the-variants.{Done, Refused}
+use Rattle.records.specs.declared.rows.Used.{Used}
+use Rattle.records.specs.declared.rows.Visit.{Visit}
+use Rattle.records.specs.declared.rows.Visit.the-variants.{Done, Refused}
 use Rattle.visits.proofs.Rowed.{sets-behind}
 use Rattle.visits.proofs.Bodies.{refuses-as, refuses-bind, done-bind}
 

@@ -10,11 +10,11 @@ use Rattle.document.specs.Visit.{Outcome, done}
 use Rattle.document.specs.Words.{Words, row, rows}
 use Rattle.fields.specs.Fields.{Refuses}
 use Rattle.visits.specs.Visiting.{leftOf, RowsOf, Did, Visited}
-use Rattle.opening.specs.Records.{more}
+use Rattle.records.specs.Records.{more}
 use Rattle.visits.specs.Kept.{Grown, Kept}
-use Rattle.opening.specs.declared.rows.Used.{Used}
-use Rattle.opening.specs.declared.rows.Visit.{Visit}
-use Rattle.opening.specs.declared.rows.Visit.the-variants.{Done, Refused}
+use Rattle.records.specs.declared.rows.Used.{Used}
+use Rattle.records.specs.declared.rows.Visit.{Visit}
+use Rattle.records.specs.declared.rows.Visit.the-variants.{Done, Refused}
 
 -- Stores at two places may be done in either order.
 set-before : (l : List ℕ) (i j a b : ℕ) → i < j → set (set l j b) i a ≡ set (set l i a) j b

@@ -22,10 +22,10 @@ use Rattle.document.specs.At.{At, Slot}
 use Rattle.fields.specs.Fields.{Refuses, Listing, FindsObject, ObjectAt}
 use Rattle.opening.specs.Opens.{Opens}
 use Rattle.visits.specs.Visiting.{leftOf, RowsIn, Did, VisitedIn, VisitsObjectIn, VisitsNeededIn, VisitsEachIn, DetailRows, ObjectRows, ObjectsRows, DetailAt, ObjectIn, ObjectsIn}
-use Rattle.opening.specs.Records.{more}
-use Rattle.opening.specs.declared.rows.Used.{Used}
-use Rattle.opening.specs.declared.rows.Visit.{Visit}
-use Rattle.opening.specs.declared.rows.Visit.the-variants.{Done, Refused}
+use Rattle.records.specs.Records.{more}
+use Rattle.records.specs.declared.rows.Used.{Used}
+use Rattle.records.specs.declared.rows.Visit.{Visit}
+use Rattle.records.specs.declared.rows.Visit.the-variants.{Done, Refused}
 use Rattle.opening.specs.declared.opened.Opened.{Opened}
 use Rattle.fields.specs.declared.field.Found.{Found as FoundAt}
 use Rattle.fields.specs.declared.field.Found.the-variants as A

@@ -11,11 +11,11 @@ use Rattle.document.specs.Visit.{Left, members, needed, Value as Waits}
 use Rattle.document.specs.At.{Slot}
 use Rattle.fields.specs.Fields.{Refuses}
 use Rattle.fields.specs.Dates.{DaySet, ReadsDays}
-use Rattle.opening.specs.Under.{typesUnder}
+use Rattle.records.specs.Under.{typesUnder}
 use Rattle.opening.specs.Opens.{Opens}
 use Rattle.visits.specs.Visiting.{leftOf, OpensUnder}
 use Rattle.visits.specs.Kept.{Stands}
-use Rattle.opening.specs.declared.rows.Used.{Used}
+use Rattle.records.specs.declared.rows.Used.{Used}
 use Rattle.opening.specs.declared.opened.Opened.{Opened}
 use Rattle.fields.specs.declared.field.Field.{Field}
 use Rattle.fields.specs.declared.field.Field.the-variants as F

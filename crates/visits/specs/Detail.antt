@@ -6,9 +6,9 @@ use lib.ListN.{length}
 use Rattle.document.specs.Schema.{aDetail, sequencesInside}
 use Rattle.visits.specs.Visiting.{DetailAt, VisitsNeededIn}
 use Rattle.visits.specs.Room.{KeptIn}
-use Rattle.opening.specs.declared.rows.Used.{Used}
-use Rattle.opening.specs.declared.rows.Visit.{Visit}
-use Rattle.opening.specs.declared.rows.Visit.the-variants.{Refused}
+use Rattle.records.specs.declared.rows.Used.{Used}
+use Rattle.records.specs.declared.rows.Visit.{Visit}
+use Rattle.records.specs.declared.rows.Visit.the-variants.{Refused}
 
 abbrev pub noneUsed : Used
 noneUsed = record { records = 0; text = 0 }

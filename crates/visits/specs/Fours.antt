@@ -9,9 +9,9 @@ use Rattle.document.specs.Visit.{valuesOf, decimals}
 use Rattle.document.specs.Words.{words, rows}
 use Rattle.document.specs.At.{At}
 use Rattle.visits.specs.Visiting.{leftOf, RowsIn, VisitedIn}
-use Rattle.opening.specs.Records.{more}
-use Rattle.opening.specs.declared.rows.Used.{Used}
-use Rattle.opening.specs.declared.rows.Visit.{Visit}
+use Rattle.records.specs.Records.{more}
+use Rattle.records.specs.declared.rows.Used.{Used}
+use Rattle.records.specs.declared.rows.Visit.{Visit}
 
 abbrev pub FourIn : RowsIn Four
 FourIn end f at chunk = (chunk ≡ rows (words 0 1 (f .morning) (f .noon) (f .evening) (f .night) ∷ [])) × (end ≡ at)

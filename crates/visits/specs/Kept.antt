@@ -5,10 +5,10 @@ use mathlib.Core.List.{List}
 use mathlib.Core.Bool.{true, false}
 use lib.ListN.{length}
 use Rattle.document.specs.Date.{among}
-use Rattle.opening.specs.Under.{typesUnder}
-use Rattle.opening.specs.declared.rows.Used.{Used}
-use Rattle.opening.specs.declared.rows.Visit.{Visit}
-use Rattle.opening.specs.declared.rows.Visit.the-variants.{Done}
+use Rattle.records.specs.Under.{typesUnder}
+use Rattle.records.specs.declared.rows.Used.{Used}
+use Rattle.records.specs.declared.rows.Visit.{Visit}
+use Rattle.records.specs.declared.rows.Visit.the-variants.{Done}
 use Rattle.opening.specs.declared.opened.Opened.{Opened}
 
 -- At least so many records are added, and there are never more than 64.

@@ -3,9 +3,9 @@ use Prim.Native.Nat.{ℕ, _≤_}
 use mathlib.Core.Path.{_≡_}
 use mathlib.Core.List.{List}
 use Rattle.visits.specs.Kept.{Kept}
-use Rattle.opening.specs.declared.rows.Used.{Used}
-use Rattle.opening.specs.declared.rows.Visit.{Visit}
-use Rattle.opening.specs.declared.rows.Visit.the-variants.{Done}
+use Rattle.records.specs.declared.rows.Used.{Used}
+use Rattle.records.specs.declared.rows.Visit.{Visit}
+use Rattle.records.specs.declared.rows.Visit.the-variants.{Done}
 
 pub record KeptIn (room least : ℕ) (before : List ℕ) (u : Used) (r : Visit) (after : List ℕ) : Type 0 where
   pub kept : Kept least before u r after

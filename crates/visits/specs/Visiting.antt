@@ -18,10 +18,10 @@ use Rattle.document.specs.Words.{words, row, rows, allWords}
 use Rattle.document.specs.At.{At, Slot}
 use Rattle.names.specs.Names.{Once}
 use Rattle.fields.specs.Fields.{Refuses}
-use Rattle.opening.specs.Under.{typesUnder}
-use Rattle.opening.specs.declared.rows.Used.{Used}
-use Rattle.opening.specs.declared.rows.Visit.{Visit}
-use Rattle.opening.specs.declared.rows.Visit.the-variants.{Done, Refused}
+use Rattle.records.specs.Under.{typesUnder}
+use Rattle.records.specs.declared.rows.Used.{Used}
+use Rattle.records.specs.declared.rows.Visit.{Visit}
+use Rattle.records.specs.declared.rows.Visit.the-variants.{Done, Refused}
 use Rattle.opening.specs.declared.opened.Opened.{Opened}
 
 -- What the objects so far leave of the 64 records and of the room.

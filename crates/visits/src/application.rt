@@ -8,11 +8,11 @@ use names::DT;
 use names::S;
 use names::Unknown;
 use opening::opened;
-use opening::rows;
-use opening::rows::Used;
-use opening::rows::Visit;
-use opening::rows::up;
-use opening::rows::up_found;
+use records::rows;
+use records::rows::Used;
+use records::rows::Visit;
+use records::rows::up;
+use records::rows::up_found;
 ghost use Prim.Native.Nat.{_≤_};
 ghost use lib.ListN.{length};
 ghost use Rattle.document.specs.Schema.{anAtTime, anInSegment};
@@ -32,7 +32,7 @@ fn read_at_time(text: &[u8], at: usize, used: Used, words: &mut [u64]) -> Visit
     if o.refused {
         return Visit::Refused(o.number, o.place);
     }
-    if opened::is_full(used) {
+    if rows::is_full(used) {
         return Visit::Refused(15, at);
     }
     let slots = o.slots;
@@ -59,7 +59,7 @@ fn read_in_segment(text: &[u8], at: usize, used: Used, words: &mut [u64]) -> Vis
     if o.refused {
         return Visit::Refused(o.number, o.place);
     }
-    if opened::is_full(used) {
+    if rows::is_full(used) {
         return Visit::Refused(15, at);
     }
     let slots = o.slots;

@@ -1,6 +1,7 @@
 // Details and sequences (document 01, "Objects": Daily to Sequence, PosologySequence, Pause).
 // Reading a detail calls reading a sequence and back; the sequences still allowed are the number that falls.
 use crate::timed;
+use document::table::WORDS;
 use fields::field;
 use fields::field::Field;
 use fields::field::Found;
@@ -17,16 +18,15 @@ use names::TDO;
 use names::TDPC;
 use names::TEXT;
 use names::Unknown;
-use opening::allowed;
 use opening::opened;
 use opening::opened::Opened;
-use opening::rows;
-use opening::rows::Used;
-use opening::rows::Visit;
-use opening::rows::WORDS;
-use opening::rows::up;
-use opening::rows::up_found;
-use opening::rows::up_worded;
+use records::allowed;
+use records::rows;
+use records::rows::Used;
+use records::rows::Visit;
+use records::rows::up;
+use records::rows::up_found;
+use records::rows::up_worded;
 ghost use Prim.Native.Nat.{ℕ, suc, _≤_, _<_};
 ghost use lib.ListN.{length};
 ghost use Rattle.document.specs.Schema.{aDetail, aSequenceObject};
@@ -283,7 +283,7 @@ fn read_sequence_object(
     if o.refused {
         return Visit::Refused(o.number, o.place);
     }
-    if opened::is_full(used) {
+    if rows::is_full(used) {
         return Visit::Refused(15, at);
     }
     let kind = o.kind;
@@ -401,12 +401,12 @@ fn visit_detail(
         if left == 0 {
             return Visit::Refused(14, slots[T]);
         }
-        if opened::is_full(used) {
+        if rows::is_full(used) {
             return Visit::Refused(15, at);
         }
         return read_sequence(text, at, o, left - 1, room, used, words);
     }
-    if opened::is_full(used) {
+    if rows::is_full(used) {
         return Visit::Refused(15, at);
     }
     plain_detail(text, at, o, room, used, words)

@@ -13,16 +13,16 @@ use names::T;
 use names::Unknown;
 use opening::opened;
 use opening::opened::Opened;
-use opening::rows;
-use opening::rows::Used;
-use opening::rows::Visit;
-use opening::rows::up;
-use opening::rows::up_found;
+use records::rows;
+use records::rows::Used;
+use records::rows::Visit;
+use records::rows::up;
+use records::rows::up_found;
 ghost use Prim.Native.Nat.{_≤_, _<_};
 ghost use lib.ListN.{length};
 ghost use Rattle.document.specs.Schema.{aDosage};
 ghost use Rattle.visits.specs.Visiting.{Ready, DosageRows, VisitsBody, VisitsObject, VisitsNeeded};
-ghost use Rattle.opening.specs.Records.{more};
+ghost use Rattle.records.specs.Records.{more};
 ghost use Rattle.visits.specs.Kept.{Kept};
 
 const SIMPLE: [usize; 2] = [T, A];
@@ -110,7 +110,7 @@ pub(crate) fn read_dosage(text: &[u8], at: usize, used: Used, words: &mut [u64])
     if o.refused {
         return Visit::Refused(o.number, o.place);
     }
-    if opened::is_full(used) {
+    if rows::is_full(used) {
         return Visit::Refused(15, at);
     }
     let kind = o.kind;

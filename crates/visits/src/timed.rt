@@ -15,15 +15,15 @@ use names::TDO;
 use names::TS;
 use names::Unknown;
 use names::WDS;
-use opening::allowed;
-use opening::allowed::UNDER_DAYS;
 use opening::opened;
 use opening::opened::Opened;
-use opening::rows;
-use opening::rows::Used;
-use opening::rows::Visit;
-use opening::rows::up;
-use opening::rows::up_found;
+use records::allowed;
+use records::allowed::UNDER_DAYS;
+use records::rows;
+use records::rows::Used;
+use records::rows::Visit;
+use records::rows::up;
+use records::rows::up_found;
 ghost use mathlib.Core.List.{List};
 ghost use Prim.Native.Nat.{ℕ, _≤_, _<_};
 ghost use lib.ListN.{length};
@@ -31,7 +31,7 @@ ghost use Rattle.json.specs.Tree.{Place, Members, object};
 ghost use Rattle.document.specs.Schema.{aTimed, underDays};
 ghost use Rattle.document.specs.Visit.{entriesOf};
 ghost use Rattle.document.specs.At.{At};
-ghost use Rattle.opening.specs.Under.{typesUnder};
+ghost use Rattle.records.specs.Under.{typesUnder};
 ghost use Rattle.visits.specs.Visiting.{Ready, TimedRows, OpensUnder, VisitsBody, VisitsNeeded};
 ghost use Rattle.visits.specs.Kept.{Kept, Stands};
 
@@ -61,7 +61,7 @@ fn open_timed(text: &[u8], at: usize, parent: usize, used: Used) -> Opened
     if !allowed::is_allowed(parent, o.kind) {
         return opened::refused(10, slots[T]);
     }
-    if opened::is_full(used) {
+    if rows::is_full(used) {
         return opened::refused(15, at);
     }
     o

@@ -1,8 +1,10 @@
 // A table's records as words, six each: tag, records below, four values (document's Words).
 use document::table::Dosage;
 use document::table::Kind;
+use document::table::RECORDS;
 use document::table::Record;
 use document::table::Table;
+use document::table::WORDS;
 ghost use mathlib.Core.Path.{_≡_};
 ghost use mathlib.Core.List.{List, []};
 ghost use Prim.Native.Nat.{_*_, _<_, _≤_};
@@ -198,13 +200,13 @@ fn lay(out: &mut [u64], i: usize, below: usize, w: Words)
 }
 
 // The words of the table's records, 384 of them.
-pub fn table_words(t: Table) -> [u64; 384]
+pub fn table_words(t: Table) -> [u64; WORDS]
     ensures { λ r. ⌜ r ≡ rows (allWords (t .records)) ⌝ }
 {
     let records = t.records;
-    let mut out = [0u64; 384];
+    let mut out = [0u64; WORDS];
     let mut i = 0;
-    while i < 64 {
+    while i < RECORDS {
         let r = records[i];
         let k = r.kind;
         lay(&mut out, i, r.below, kind_words(k));
@@ -226,7 +228,7 @@ fn lay_unused(words: &mut [u64], from: usize)
         d: 0,
     };
     let mut i = from;
-    while i < 64 {
+    while i < RECORDS {
         lay(words, i, 0, none);
         i += 1;
     }
@@ -248,7 +250,7 @@ fn lay_made(words: &mut [u64], count: usize)
 }
 
 // Words that were read, made the words of the table's records.
-pub fn tidy(words: &mut [u64; 384], count: usize)
+pub fn tidy(words: &mut [u64; WORDS], count: usize)
     ensures { λ _. ⌜ now (words .exit) ≡ rows (allWords (recordsIn count (now (words .entry)))) ⌝ }
 {
     let n = kinds::at_most(count);

@@ -4,7 +4,7 @@ use mathlib.Core.Path.{_≡_, refl, ap, sym, _∙_}
 use mathlib.Core.List.{[], _∷_}
 use Prim.Native.Nat.{suc, _+_, _*_, _-_, _≤_}
 use native.Mathlib.Omega.{arith}
-use Rattle.opening.proofs.Records.{above-stores, one-more}
+use Rattle.records.proofs.Records.{above-stores, one-more}
 use borrow.Author.Needs.{needs}
 use lib.ListN.{length, drop}
 use Rattle.json.specs.Tree.{Place, Elements, list}
@@ -15,7 +15,7 @@ use Rattle.document.specs.Visit.{entriesOf, valuesOf, body}
 use Rattle.document.specs.At.{At}
 use Rattle.names.specs.Names.{nameAt, names}
 use Rattle.visits.specs.Visiting.{leftOf, DetailAt, ObjectIn, ObjectsIn}
-use Rattle.opening.specs.Records.{more}
+use Rattle.records.specs.Records.{more}
 use Rattle.visits.proofs.Bodies.{refuses-as, object-at, body-unknown, body-full}
 use Rattle.visits.proofs.Detailed as D
 use Rattle.visits.proofs.Detailed.{begins, took, stopped, number-is, number-refused, refused-in, did-in, refused-kept, done-kept}
@@ -52,12 +52,12 @@ use Rattle.fields.proofs.field.list_field.Reads as list-field-reads
 use Rattle.fields.proofs.field.object_field.Reads as object-field-reads
 use Rattle.fields.proofs.field.object_value.Reads as object-value-reads
 use Rattle.names.proofs.unknown_name.Reads as unknown-name-reads
-use Rattle.opening.proofs.opened.is_full.Reads as is-full-reads
+use Rattle.records.proofs.rows.is_full.Reads as is-full-reads
 use Rattle.opening.proofs.opened.open_typed.Reads as open-typed-reads
-use Rattle.opening.proofs.rows.above.Reads as above-reads
-use Rattle.opening.proofs.rows.one_more.Reads as one-more-reads
-use Rattle.opening.proofs.rows.up.Reads as up-reads
-use Rattle.opening.proofs.rows.up_found.Reads as up-found-reads
+use Rattle.records.proofs.rows.above.Reads as above-reads
+use Rattle.records.proofs.rows.one_more.Reads as one-more-reads
+use Rattle.records.proofs.rows.up.Reads as up-reads
+use Rattle.records.proofs.rows.up_found.Reads as up-found-reads
 use Rattle.visits.proofs.detail.+posology_sequence+read_detail+read_objects+read_sequence+read_sequence_object+visit_detail.{statement}
 use Rattle.visits.proofs.detail.+posology_sequence+read_detail+read_objects+read_sequence+read_sequence_object+visit_detail.Tie.{close}
 

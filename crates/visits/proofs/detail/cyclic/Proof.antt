@@ -7,13 +7,13 @@ use Rattle.document.specs.Schema.{need, may, gives, aDuration, aTimeUnit, anObj
 use Rattle.document.specs.Visit.{entriesOf, done}
 use Rattle.names.specs.Names.{nameAt, names}
 use Rattle.visits.specs.Visiting.{leftOf, DetailAt}
-use Rattle.opening.specs.Records.{more}
+use Rattle.records.specs.Records.{more}
 use Rattle.visits.proofs.Bodies.{object-at, body-unknown}
 use Rattle.visits.proofs.Detailed as D
 use Rattle.visits.proofs.Detailed.{begins, took, stopped, took-given, stopped-given, number-is, number-refused, refused-in, did-in, refused-kept, done-kept}
 use mathlib.Core.Option.{Option·getD}
 use Prim.Native.Nat.{ℕ}
-use Rattle.opening.proofs.Records.{above-stores, one-more}
+use Rattle.records.proofs.Records.{above-stores, one-more}
 use borrow.Author.Needs.{needs}
 use Rattle.visits.proofs.detail.cyclic.Statement.{statement}
 use Rattle.visits.proofs.detail.cyclic.Tie as tie

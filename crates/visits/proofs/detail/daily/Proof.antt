@@ -7,7 +7,7 @@ use Rattle.document.specs.Schema.{gives, aList, fourDecimals, rowsOf, dailyRows
 use Rattle.document.specs.Visit.{entriesOf, valuesOf, decimals, bind, done}
 use Rattle.names.specs.Names.{nameAt, names}
 use Rattle.visits.specs.Visiting.{leftOf, DetailAt}
-use Rattle.opening.specs.Records.{more}
+use Rattle.records.specs.Records.{more}
 use Rattle.visits.proofs.Bodies.{object-at, body-unknown}
 use Rattle.visits.proofs.Detailed as D
 use Rattle.visits.proofs.Detailed.{begins, stopped, refused-in, refused-kept}

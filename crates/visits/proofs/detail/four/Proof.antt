@@ -1,12 +1,12 @@
 -- The four decimals of a Daily, in one record.
 use mathlib.Core.Path.{refl}
 use Rattle.visits.specs.Visiting.{leftOf}
-use Rattle.opening.specs.Records.{more}
+use Rattle.records.specs.Records.{more}
 use Rattle.visits.specs.Fours.{FourIn}
 use Rattle.visits.proofs.Rowed.{leaf-did}
 use Rattle.visits.proofs.Detailed as D
 use Rattle.visits.proofs.Detailed.{refused-in, did-in, refused-kept, done-kept}
-use Rattle.opening.proofs.Records.{leaf-stores}
+use Rattle.records.proofs.Records.{leaf-stores}
 use borrow.Author.Needs.{needs}
 use Rattle.visits.proofs.detail.four.Statement.{statement}
 use Rattle.visits.proofs.detail.four.Tie as tie

@@ -8,12 +8,12 @@ use Rattle.document.specs.Visit.{entriesOf}
 use Rattle.names.specs.Names.{nameAt, names}
 use Rattle.visits.specs.Visiting.{leftOf, ObjectIn, ObjectRows}
 use Rattle.document.specs.Valid.{objectStrings}
-use Rattle.opening.specs.Records.{more}
+use Rattle.records.specs.Records.{more}
 use Rattle.visits.proofs.Bodies.{object-at, body-unknown}
 use Rattle.visits.proofs.Rowed.{leaf-did}
 use Rattle.visits.proofs.Detailed as D
 use Rattle.visits.proofs.Detailed.{begins, took, stopped, number-is, number-refused, refused-in, did-in, refused-kept, done-kept}
-use Rattle.opening.proofs.Records.{leaf-stores}
+use Rattle.records.proofs.Records.{leaf-stores}
 use borrow.Author.Needs.{needs}
 use Rattle.visits.proofs.detail.pause.Statement.{statement}
 use Rattle.visits.proofs.detail.pause.Tie as tie

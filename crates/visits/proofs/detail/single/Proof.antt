@@ -7,11 +7,11 @@ use Rattle.document.specs.Schema.{gives, anObject, aTimed, underSingle, rowsOf,
 use Rattle.document.specs.Visit.{entriesOf}
 use Rattle.names.specs.Names.{nameAt, names}
 use Rattle.visits.specs.Visiting.{leftOf, DetailAt}
-use Rattle.opening.specs.Records.{more}
+use Rattle.records.specs.Records.{more}
 use Rattle.visits.proofs.Bodies.{object-at, body-unknown}
 use Rattle.visits.proofs.Detailed as D
 use Rattle.visits.proofs.Detailed.{begins, took, stopped, refused-in, did-in, refused-kept, done-kept}
-use Rattle.opening.proofs.Records.{above-stores, one-more}
+use Rattle.records.proofs.Records.{above-stores, one-more}
 use borrow.Author.Needs.{needs}
 use Rattle.visits.proofs.detail.single.Statement.{statement}
 use Rattle.visits.proofs.detail.single.Tie as tie

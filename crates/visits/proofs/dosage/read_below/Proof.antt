@@ -3,10 +3,10 @@ use mathlib.Core.Path.{refl}
 use native.Mathlib.Omega.{arith}
 use Rattle.document.specs.Schema.{aDosage}
 use Rattle.visits.specs.Visiting.{leftOf, DosageRows}
-use Rattle.opening.specs.Records.{more}
+use Rattle.records.specs.Records.{more}
 use Rattle.visits.proofs.Rowed.{visited-as, kept-refused}
 use Rattle.visits.proofs.Bodies.{finds-child, finds-refused}
-use Rattle.opening.proofs.Records.{one-more}
+use Rattle.records.proofs.Records.{one-more}
 use borrow.Author.Needs.{needs}
 use Rattle.visits.proofs.dosage.read_below.Statement.{statement}
 use Rattle.visits.proofs.dosage.read_below.Tie as tie

@@ -1,12 +1,12 @@
 use mathlib.Core.Path.{refl, ap, _∙_}
 use native.Mathlib.Omega.{arith}
-use Rattle.opening.proofs.Records.{leaf-stores}
+use Rattle.records.proofs.Records.{leaf-stores}
 use borrow.Author.Needs.{needs}
 use lib.ListN.{length, length-set}
 use Rattle.document.specs.Visit.{entriesOf}
 use Rattle.document.specs.Words.{words}
 use Rattle.visits.specs.Visiting.{leftOf}
-use Rattle.opening.specs.Records.{more}
+use Rattle.records.specs.Records.{more}
 use Rattle.visits.proofs.Rowed.{leaf-did, kept-refused, kept-done}
 use Rattle.visits.proofs.Bodies.{object-at, body-opens, body-unknown, refuses-as, refuses-bind, done-bind, reads-done, reads-refused}
 use Rattle.visits.proofs.Known.{simple-known, simple-fields}

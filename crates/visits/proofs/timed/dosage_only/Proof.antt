@@ -5,12 +5,12 @@ use lib.ListN.{length, length-set}
 use Rattle.document.specs.Visit.{entriesOf}
 use Rattle.document.specs.Words.{words}
 use Rattle.visits.specs.Visiting.{leftOf}
-use Rattle.opening.specs.Records.{more}
+use Rattle.records.specs.Records.{more}
 use Rattle.visits.proofs.Rowed.{above-did, visited-done, visited-refused, kept-refused, kept-done}
 use Rattle.visits.proofs.Bodies.{object-at, body-opens, body-unknown, refuses-as, refuses-bind, done-bind}
 use Rattle.visits.proofs.Known.{dosage-only-known, dosage-only-fields}
 use Rattle.visits.proofs.Chunks.{counted, dosage-only-rows}
-use Rattle.opening.proofs.Records.{above-stores}
+use Rattle.records.proofs.Records.{above-stores}
 use borrow.Author.Needs.{needs}
 use Rattle.visits.proofs.timed.dosage_only.Statement.{statement}
 use Rattle.visits.proofs.timed.dosage_only.Tie as tie

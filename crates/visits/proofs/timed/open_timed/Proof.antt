@@ -6,7 +6,7 @@ use mathlib.Core.List.{[], _∷_}
 use Rattle.document.specs.Bytes.{bytes}
 use Rattle.document.specs.Schema.{aTimed}
 use Rattle.document.specs.Visit.{entriesOf}
-use Rattle.opening.specs.Under.{typesUnder}
+use Rattle.records.specs.Under.{typesUnder}
 use Rattle.visits.specs.Visiting.{leftOf}
 use Rattle.visits.proofs.Bodies.{refuses-as, typed-as, body-full}
 use Rattle.visits.proofs.Under.{under-refused, under-opened, stands-refused, stands-nowhere}

@@ -2,11 +2,11 @@
 use mathlib.Core.Path.{refl, _∙_}
 use native.Mathlib.Omega.{arith}
 use Rattle.document.specs.Schema.{aTimed}
-use Rattle.opening.specs.Under.{typesUnder}
+use Rattle.records.specs.Under.{typesUnder}
 use Rattle.visits.specs.Visiting.{leftOf, TimedRows}
 use Rattle.visits.proofs.Rowed.{visited-as, kept-refused}
 use Rattle.visits.proofs.Bodies.{object-at, finds-child, finds-refused, refuses-as, under-as}
-use Rattle.opening.proofs.Under.{types-to-6}
+use Rattle.records.proofs.Under.{types-to-6}
 use borrow.Author.Needs.{needs}
 use Rattle.visits.proofs.timed.read_timed.Statement.{statement}
 use Rattle.visits.proofs.timed.read_timed.Tie as tie

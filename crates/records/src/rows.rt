@@ -1,11 +1,14 @@
 // The records as they are read: six words each, in visiting order: tag, records below, four values.
+use document::table::RECORDS;
+use document::table::WORDS;
 use fields::field::Field;
 use fields::field::Found;
 use fields::field::Worded;
 ghost use mathlib.Core.Path.{_≡_};
 ghost use Prim.Native.Nat.{ℕ, _-_};
+ghost use lib.Dec.{leb};
 ghost use Rattle.document.specs.Words.{words as wordsOf};
-ghost use Rattle.opening.specs.Records.{oneMore, written};
+ghost use Rattle.records.specs.Records.{oneMore, written};
 
 // Records and text bytes taken so far.
 pub struct Used {
@@ -19,9 +22,11 @@ pub enum Visit {
     Refused(u8, usize),
 }
 
-pub const RECORDS: usize = 64;
-
-pub const WORDS: usize = 384;
+pub fn is_full(used: Used) -> bool
+    ensures { λ r. ⌜ r ≡ leb 64 (used .records) ⌝ }
+{
+    RECORDS <= used.records
+}
 
 pub fn put(words: &mut [u64], i: usize, tag: u64, below: usize, a: u64, b: u64, c: u64, d: u64)
     ensures { λ _. ⌜ now (words .exit) ≡ written (now (words .entry)) i (wordsOf below tag a b c d) ⌝ }

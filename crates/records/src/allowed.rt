@@ -3,7 +3,7 @@ ghost use mathlib.Core.Path.{_≡_};
 ghost use Prim.Native.Nat.{_<_};
 ghost use Rattle.document.specs.Date.{among};
 ghost use Rattle.document.specs.Schema.{underCyclic};
-ghost use Rattle.opening.specs.Under.{typesUnder};
+ghost use Rattle.records.specs.Under.{typesUnder};
 
 // "Which kind may stand under which is one fixed table": a row a parent, 1 where the type 0 to 6 may stand under it.
 pub const UNDER_SINGLE: usize = 0;

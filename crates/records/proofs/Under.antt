@@ -9,7 +9,7 @@ use lib.Dec.{eqb, leb}
 use lib.ListN.{getD}
 use Rattle.document.specs.Date.{among}
 use Rattle.document.specs.Schema.{underCyclic}
-use Rattle.opening.specs.Under.{typesUnder}
+use Rattle.records.specs.Under.{typesUnder}
 
 -- A test of every number below one, and what it says of each.
 abbrev all-below : ℕ → (ℕ → Bool) → Bool

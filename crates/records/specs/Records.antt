@@ -6,7 +6,7 @@ use lib.Dec.{eqb, leb}
 use lib.ListN.{length}
 use lib.Seq.{sets}
 use Rattle.document.specs.Words.{Words, row}
-use Rattle.opening.specs.declared.rows.Used.{Used}
+use Rattle.records.specs.declared.rows.Used.{Used}
 
 -- One record more.
 abbrev pub more : Used → Used

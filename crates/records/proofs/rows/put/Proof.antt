@@ -5,9 +5,9 @@ use native.Mathlib.Omega.{arith}
 use lib.ListN.{length-set}
 use Rattle.document.specs.Words.{words}
 use borrow.Author.Needs.{needs}
-use Rattle.opening.proofs.rows.put.Statement.{statement}
-use Rattle.opening.proofs.rows.put.Tie as tie
-use Rattle.opening.proofs.Records.{six-stored, other-words, no-record, stored}
+use Rattle.records.proofs.rows.put.Statement.{statement}
+use Rattle.records.proofs.rows.put.Tie as tie
+use Rattle.records.proofs.Records.{six-stored, other-words, no-record, stored}
 
 returns : tie.Need-returns
 returns c = other-words _ _ _ (c .if1 .taken)

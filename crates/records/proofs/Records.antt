@@ -6,10 +6,10 @@ use borrow.Author.Tests.{eq-eqb, ne-eqb, le-leb, lt-leb}
 use lib.ListN.{length, set}
 use lib.Seq.{sets}
 use Rattle.document.specs.Words.{Words, row}
-use Rattle.opening.specs.Records.{more, oneMore, written}
-use Rattle.opening.specs.declared.rows.Used.{Used}
-use Rattle.opening.specs.declared.rows.Visit.{Visit}
-use Rattle.opening.specs.declared.rows.Visit.the-variants.{Done}
+use Rattle.records.specs.Records.{more, oneMore, written}
+use Rattle.records.specs.declared.rows.Used.{Used}
+use Rattle.records.specs.declared.rows.Visit.{Visit}
+use Rattle.records.specs.declared.rows.Visit.the-variants.{Done}
 
 -- Six stores, one behind the other.
 pub six-stored : (l : List ℕ) (k at n₁ n₂ n₃ n₄ n₅ : ℕ) (w : Words) → at ≡ k → n₁ ≡ suc k → n₂ ≡ suc (suc k) → n₃ ≡ suc (suc (suc k)) → n₄ ≡ suc (suc (suc (suc k))) → n₅ ≡ suc (suc (suc (suc (suc k))))

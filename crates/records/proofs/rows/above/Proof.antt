@@ -1,8 +1,8 @@
 -- The records below it are those between.
 use mathlib.Core.Path.{refl}
 use borrow.Author.Needs.{needs}
-use Rattle.opening.proofs.rows.above.Statement.{statement}
-use Rattle.opening.proofs.rows.above.Tie as tie
+use Rattle.records.proofs.rows.above.Statement.{statement}
+use Rattle.records.proofs.rows.above.Tie as tie
 
 between-requires : tie.Need-between-requires
 between-requires c κs = search needs

@@ -1,9 +1,9 @@
 -- The table has the types under each parent, by one computed test.
 use native.Mathlib.Omega.{arith}
-use Rattle.opening.proofs.Under.{allowed-right, none-behind-6, none-behind-4}
+use Rattle.records.proofs.Under.{allowed-right, none-behind-6, none-behind-4}
 use borrow.Author.Needs.{needs}
-use Rattle.opening.proofs.allowed.is_allowed.Statement.{statement}
-use Rattle.opening.proofs.allowed.is_allowed.Tie as tie
+use Rattle.records.proofs.allowed.is_allowed.Statement.{statement}
+use Rattle.records.proofs.allowed.is_allowed.Tie as tie
 
 returns : tie.Need-returns
 returns c = let s = c .before in none-behind-6 (s .args .parent) (s .args .kind) (c .if1 .taken)

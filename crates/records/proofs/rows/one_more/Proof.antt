@@ -1,8 +1,8 @@
 -- One record more, where one is left.
 use borrow.Author.Needs.{needs}
-use Rattle.opening.proofs.Records.{all-counted, counted}
-use Rattle.opening.proofs.rows.one_more.Statement.{statement}
-use Rattle.opening.proofs.rows.one_more.Tie as tie
+use Rattle.records.proofs.Records.{all-counted, counted}
+use Rattle.records.proofs.rows.one_more.Statement.{statement}
+use Rattle.records.proofs.rows.one_more.Tie as tie
 
 returns : tie.Need-returns
 returns c = all-counted _ (c .if1 .taken)

@@ -1,7 +1,7 @@
 -- `opening::rows::up_found` passes a refusal up.
 use borrow.Author.Needs.{needs}
-use Rattle.opening.proofs.rows.up_found.Statement.{statement}
-use Rattle.opening.proofs.rows.up_found.Tie as tie
+use Rattle.records.proofs.rows.up_found.Statement.{statement}
+use Rattle.records.proofs.rows.up_found.Tie as tie
 
 enum-told : tie.Need-enum-told
 enum-told c = search needs

@@ -1,8 +1,8 @@
 -- The row of the types under Cyclic, by its unit.
 use native.Mathlib.Omega.{arith}
-use Rattle.opening.proofs.Under.{under-other}
-use Rattle.opening.proofs.allowed.under_cyclic.Statement.{statement}
-use Rattle.opening.proofs.allowed.under_cyclic.Tie as tie
+use Rattle.records.proofs.Under.{under-other}
+use Rattle.records.proofs.allowed.under_cyclic.Statement.{statement}
+use Rattle.records.proofs.allowed.under_cyclic.Tie as tie
 
 returns : tie.Need-returns
 returns c =

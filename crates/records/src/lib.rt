@@ -1,0 +1,3 @@
+// The records as they are read: which objects may stand under which, and each object's six words.
+pub mod allowed;
+pub mod rows;
