@@ -5,7 +5,7 @@ pub mod Reorder
 pub mod OneMeaning
 pub mod Good
 pub mod Days
-pub mod Dates
+pub mod RealDates
 pub mod Makes
 pub mod Sound
 pub mod Parts
@@ -36,6 +36,7 @@ pub mod Untables
 pub mod Strings
 pub mod Untabled
 pub mod Tables
+mod Calendar
 pub mod Demand1
 pub mod Demand2
 pub mod Demand3

@@ -1,6 +1,6 @@
 // The head of a posology (document 01, "Objects": Posology).
+use document::dates;
 use document::table::Date;
-use fields::date;
 use fields::field;
 use fields::field::DateField;
 use fields::field::Field;
@@ -194,7 +194,7 @@ fn with_strings(
     };
     let from = h.from;
     let to = h.to;
-    if !date::in_order(from, to) {
+    if !dates::in_order(from, to) {
         return refused(12, at);
     }
     HeadRead {

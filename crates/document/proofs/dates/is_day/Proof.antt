@@ -1,9 +1,9 @@
 -- A real day.
 use borrow.Author.Needs.{needs}
 use Rattle.document.specs.Date.{isDay}
 use borrow.Author.Tests.{lt-leb, le-leb}
-use Rattle.fields.proofs.date.is_day.Statement.{statement}
-use Rattle.fields.proofs.date.is_day.Tie as tie
+use Rattle.document.proofs.dates.is_day.Statement.{statement}
+use Rattle.document.proofs.dates.is_day.Tie as tie
 
 returns : tie.Need-returns
 unfolding isDay

@@ -1,8 +1,8 @@
 -- A leap year, by the three remainders.
 use Rattle.document.specs.Date.{leap}
 use borrow.Author.Tests.{eq-eqb, ne-eqb}
-use Rattle.fields.proofs.date.is_leap.Statement.{statement}
-use Rattle.fields.proofs.date.is_leap.Tie as tie
+use Rattle.document.proofs.dates.is_leap.Statement.{statement}
+use Rattle.document.proofs.dates.is_leap.Tie as tie
 
 returns : tie.Need-returns
 unfolding leap

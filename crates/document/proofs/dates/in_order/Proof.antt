@@ -1,8 +1,9 @@
 -- Two dates in order.
 use borrow.Author.Needs.{needs}
-use Rattle.fields.proofs.DateLaws.{in-order-none, in-order-some}
-use Rattle.fields.proofs.date.in_order.Statement.{statement}
-use Rattle.fields.proofs.date.in_order.Tie as tie
+use Rattle.document.specs.Untable.{dateOf}
+use Rattle.document.proofs.Calendar.{order-open, order-given}
+use Rattle.document.proofs.dates.in_order.Statement.{statement}
+use Rattle.document.proofs.dates.in_order.Tie as tie
 
 enum-told : tie.Need-enum-told
 enum-told c = search needs
@@ -14,15 +15,12 @@ written-requires-2 : tie.Need-written-requires-2
 written-requires-2 c κs = search needs
 
 returns : tie.Need-returns
-returns c = λ x y p q. in-order-none (c .before .before .args .to) (c .enum-told .given .1) x y q
+returns c = rw (c .enum-told .given .1) (order-open (dateOf (c .before .before .args .from)))
 
 returns-2 : tie.Need-returns-2
 returns-2 c =
     let args = c .before .before .before .args in
-    let match = c .before .before .match in
-    let written = c .before .written in
-    let written2 = c .written2 in
-    in-order-some (args .from) (args .to) (written .result) (written2 .result) (match .keys2) (written .ensures) (written2 .ensures)
+    rw (c .before .written .ensures, c .written2 .ensures) (order-given (dateOf (args .from)) (args .to) (c .before .before .match .keys2))
 
 pub in-order-spec : {M : Type 1} → statement M
 in-order-spec =

@@ -1,9 +1,9 @@
 -- The days of each month.
 use borrow.Author.Needs.{needs}
 use Rattle.document.specs.Date.{daysIn}
-use Rattle.fields.proofs.DateLaws.{no-month}
-use Rattle.fields.proofs.date.days_in.Statement.{statement}
-use Rattle.fields.proofs.date.days_in.Tie as tie
+use Rattle.document.proofs.Calendar.{no-month}
+use Rattle.document.proofs.dates.days_in.Statement.{statement}
+use Rattle.document.proofs.dates.days_in.Tie as tie
 
 is-leap-requires : tie.Need-is-leap-requires
 is-leap-requires c κs = search needs

@@ -1,6 +1,7 @@
+-- A date as a number.
 use borrow.Author.Needs.{needs}
-use Rattle.checking.proofs.check_head.written.Statement.{statement}
-use Rattle.checking.proofs.check_head.written.Tie as tie
+use Rattle.document.proofs.dates.written.Statement.{statement}
+use Rattle.document.proofs.dates.written.Tie as tie
 
 enum-told : tie.Need-enum-told
 enum-told c = search needs
