@@ -22,7 +22,7 @@ use Rattle.document.specs.declared.table.Head.{Head}
 use Rattle.document.proofs.Parts.{all-nine}
 use Rattle.document.proofs.Untabled.{date-back, order-back}
 use Rattle.document.proofs.Good.{and-left, and-right}
-use Rattle.checking.proofs.Lies.{both}
+use Rattle.doses.proofs.Lies.{both}
 use Rattle.checking.proofs.Pieces.{unit-given}
 use Rattle.checking.specs.Readable.{HeadRight}
 

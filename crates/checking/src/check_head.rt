@@ -6,15 +6,15 @@ use document::table::Date;
 use document::table::Head;
 use document::table::Table;
 use document::table::Text;
+use doses::WORDS;
+use doses::below;
 use words::table_words;
 ghost use mathlib.Core.Path.{_≡_};
-ghost use mathlib.Core.Bool.{true};
-ghost use Prim.Native.Nat.{_+_, _<_};
-ghost use lib.ListN.{length};
 ghost use Rattle.document.specs.Date.{isDate};
 ghost use Rattle.document.specs.Valid.{ifGiven};
 ghost use Rattle.document.specs.Untable.{dateOf};
-ghost use Rattle.checking.specs.Checks.{Decides, Checks};
+ghost use Rattle.doses.specs.Doses.{Decides};
+ghost use Rattle.checking.specs.Checks.{Checks};
 ghost use Rattle.checking.specs.Readable.{momentIn, PieceAt, PiecesAt, HeadRight, LaidAt};
 ghost use Rattle.document.specs.Write.{readable};
 
@@ -147,8 +147,7 @@ const SEQUENCES: usize = 3;
 const ROOM: usize = 2048;
 
 // The records and the strings of a table, as its head says.
-fn is_laid(words: &[u64], buffer: &[u8], h: Head, count: usize, text: usize) -> bool
-    requires { ⌜ length (now words) ≡ 384 ⌝ }
+fn is_laid(words: &[u64; WORDS], buffer: &[u8], h: Head, count: usize, text: usize) -> bool
     ensures { λ r. ⌜ Decides (LaidAt (now (words .entry)) (now (buffer .entry)) h count text) r ⌝ }
 {
     if ROOM < text {
@@ -160,7 +159,7 @@ fn is_laid(words: &[u64], buffer: &[u8], h: Head, count: usize, text: usize) -> 
     if count < 1 {
         return false;
     }
-    let n = check::below(words, 0);
+    let n = below(words, 0);
     if count - 1 == n {
         let c = check::detail(words, 0, SEQUENCES, buffer, 0);
         if c.good {
