@@ -16,6 +16,7 @@ use Rattle.document.specs.declared.table.Kind.{Kind}
 use Rattle.document.specs.declared.table.Kind.the-variants as K
 use Rattle.document.specs.declared.table.Record.{Record}
 use Rattle.document.specs.declared.table.Table.{Table}
+use Rattle.words.proofs.Rowed.{rows-length}
 use Rattle.kinds.specs.Kinds.{kindOf, recordIn, groups}
 use Rattle.area.specs.Area.{dateOf, dateIn, headIn, tableOfNumbers}
 use Rattle.area.specs.Fits.{U8, U16, U32, U64, TextFits, DateFits, KindFits, AllFit, Fitting}
@@ -173,10 +174,6 @@ pub date-length : (d : Date) (k : List ℕ) → length (dateWords d k) ≡ lengt
 date-length D.Absent k = omega arith
 date-length (D.Bare y m d) k = omega arith
 date-length (D.Moment y m d s west z) k = omega arith
-
-rows-length : (rs : List Record) → length (rows (allWords rs)) ≡ length rs * 6
-rows-length [] = refl
-rows-length (r ∷ rs) = let e = rows-length rs in omega arith
 
 -- A table has 410 numbers.
 pub table-length : (t : Table) → length (t .records) ≡ 64 → length (tableWords t) ≡ 410

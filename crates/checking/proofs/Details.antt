@@ -5,7 +5,8 @@ use mathlib.Core.Bool.{true, false, true≢false, false≢true}
 use Prim.Native.Nat.{ℕ, _+_, _-_, _≤_, _<_}
 use native.Mathlib.Omega.{arith}
 use Rattle.words.specs.Standing.{tagAt, belowAt, bAt}
-use Rattle.checking.specs.Checks.{Checks, Row, Nested, StillAt, daily, single, cyclic, FreeTextAt, DetailAt, still, freeText, sequence, ObjectAt, pause, posology, ObjectsAt, last, more, SequenceAt}
+use Rattle.doses.specs.Doses.{Row, Nested, StillAt, daily, single, cyclic}
+use Rattle.checking.specs.Checks.{Checks, FreeTextAt, DetailAt, still, freeText, sequence, ObjectAt, pause, posology, ObjectsAt, last, more, SequenceAt}
 use Rattle.checking.specs.declared.check.Checked.{Checked}
 
 pub refuted : {P : ℕ → Type 0} → ((u : ℕ) → P u → ⊥) → Checks P (record { good = false; text = 0 })
@@ -32,10 +33,13 @@ module _ {ws : List ℕ} {i : ℕ} where
   still-inside (cyclic p) = p .row .inside
 
 module _ {ws buffer : List ℕ} where
-  pub detail-inside : {left i text u : ℕ} → DetailAt ws buffer left i text u → i < 64
+  detail-inside : {left i text u : ℕ} → DetailAt ws buffer left i text u → i < 64
   detail-inside (still p e) = still-inside p
   detail-inside (freeText p e) = p .row .inside
   detail-inside (sequence l r o) = r .inside
+
+  pub before-detail : {left i text u : ℕ} → DetailAt ws buffer left (i + 1) text u → i < 63
+  before-detail p = let h = detail-inside p in omega arith
 
   pub object-inside : {left i text u : ℕ} → ObjectAt ws buffer left i text u → i < 64
   object-inside (pause r e) = r .inside

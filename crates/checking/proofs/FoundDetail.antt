@@ -19,12 +19,13 @@ use Rattle.document.specs.Words.{recordWords, allWords}
 use Rattle.document.specs.declared.table.Record.{Record}
 use Rattle.document.specs.declared.table.Kind.the-variants as K
 use Rattle.words.specs.Standing.{belowAt, bAt, At, Lies}
-use Rattle.checking.proofs.Lies.{moved}
+use Rattle.doses.proofs.Lies.{moved}
 use Rattle.document.proofs.Untables.{joined-append}
 use Rattle.document.proofs.Good.{and-left, and-right}
-use Rattle.checking.proofs.Decided.{same-parent}
-use Rattle.checking.proofs.Found.{timed-found, lets-single, lets-cyclic}
-use Rattle.checking.specs.Checks.{daily, single, cyclic, DetailAt, still, freeText, sequence, ObjectAt, pause, posology, ObjectsAt, last, more}
+use Rattle.doses.proofs.Decided.{same-parent}
+use Rattle.doses.proofs.Found.{timed-found, lets-single, lets-cyclic}
+use Rattle.doses.specs.Doses.{daily, single, cyclic}
+use Rattle.checking.specs.Checks.{DetailAt, still, freeText, sequence, ObjectAt, pause, posology, ObjectsAt, last, more}
 
 -- A value d was found: its strings end where `rest` begins.
 pub record FoundDetail (ws buffer : List ℕ) (d : Detail) (left i text : ℕ) (k : List Record) (rest : List ℕ) : Type 0 where

@@ -20,9 +20,9 @@ use Rattle.document.specs.declared.table.Date.{Date}
 use Rattle.document.specs.declared.table.Date.the-variants as D
 use Rattle.document.specs.declared.table.Head.{Head}
 use Rattle.document.proofs.Parts.{all-nine}
-use Rattle.document.proofs.Untabled.{date-back}
+use Rattle.document.proofs.Untabled.{date-back, order-back}
 use Rattle.document.proofs.Good.{and-left, and-right}
-use Rattle.checking.proofs.Lies.{both}
+use Rattle.doses.proofs.Lies.{both}
 use Rattle.checking.proofs.Pieces.{unit-given}
 use Rattle.checking.specs.Readable.{HeadRight}
 
@@ -82,7 +82,7 @@ unfolding headOf
 head-right purpose p n = record {
   from = ap (ifGiven isDate) (date-back (p .dtFrom)) ∙ n .from;
   to = ap (ifGiven isDate) (date-back (p .dtTo)) ∙ n .to;
-  ordered = ap (λ d. inOrder d (dateOf (dateCell (p .dtTo)))) (date-back (p .dtFrom)) ∙ ap (inOrder (p .dtFrom)) (date-back (p .dtTo)) ∙ n .ordered;
+  ordered = order-back (p .dtFrom) (p .dtTo) refl refl ∙ n .ordered;
   meal = meal-most (p .relMeal) (n .meal);
   unit = unit-given purpose (length (detailStrings (p .po) [])) (p .unit) (n .unit);
 }

@@ -1,19 +1,15 @@
--- Dates, strings and the head of a table.
-use mathlib.Core.Path.{_≡_, refl, ap, sym, subst, _∙_}
+-- Moments, strings and the head of a table.
+use mathlib.Core.Path.{_≡_, refl, sym, subst}
 use mathlib.Core.List.{List}
 use mathlib.Core.Bool.{Bool, true, false, _&&_, true≢false, false≢true}
-use Prim.Native.Nat.{ℕ, _+_, _*_, _≤_, _<_}
+use Prim.Native.Nat.{ℕ, _+_, _≤_, _<_}
 use native.Mathlib.Omega.{arith}
 use lib.Dec.{leb, ltb}
 use borrow.Author.Tests.{lt-leb, le-leb}
-use Rattle.document.specs.Date.{inOrder}
-use Rattle.document.specs.Untable.{dateOf}
 use Rattle.document.specs.declared.table.Text.{Text}
-use Rattle.document.specs.declared.table.Date.{Date}
-use Rattle.document.specs.declared.table.Date.the-variants as D
 use Rattle.document.specs.declared.table.Head.{Head}
 use Rattle.checking.specs.Checks.{Checks, StringAt, DetailAt}
-use Rattle.checking.specs.Readable.{writtenIn, momentIn, PieceAt, absent, present, PiecesAt, LaidAt}
+use Rattle.checking.specs.Readable.{momentIn, PieceAt, absent, present, PiecesAt, LaidAt}
 use Rattle.checking.specs.declared.check.Checked.{Checked}
 
 pub moment-late : (s : ℕ) (west : Bool) (zone : ℕ) → 86399 < s → false ≡ momentIn s west zone
@@ -42,32 +38,6 @@ with-day false a b m e f = absurd (false≢true e)
 pub without-day : (d a b : Bool) → d ≡ false → false ≡ ((d && a) && b)
 without-day true a b e = absurd (true≢false e)
 without-day false a b e = refl
-
-pub order-open : (from : Date) → true ≡ inOrder (dateOf from) (dateOf D.Absent)
-order-open D.Absent = refl
-order-open (D.Bare y m d) = refl
-order-open (D.Moment y m d s west zone) = refl
-
-pub order-bare : (from : Date) (y m d : ℕ) → leb (writtenIn from) (writtenIn (D.Bare y m d)) ≡ inOrder (dateOf from) (dateOf (D.Bare y m d))
-order-bare D.Absent y m d = le-leb 0 ((y * 100 + m) * 100 + d) (omega arith)
-order-bare (D.Bare y′ m′ d′) y m d = refl
-order-bare (D.Moment y′ m′ d′ s west zone) y m d = refl
-
-pub order-moment : (from : Date) (y m d s : ℕ) (w : Bool) (z : ℕ) → leb (writtenIn from) (writtenIn (D.Moment y m d s w z)) ≡ inOrder (dateOf from) (dateOf (D.Moment y m d s w z))
-order-moment D.Absent y m d s w z = le-leb 0 ((y * 100 + m) * 100 + d) (omega arith)
-order-moment (D.Bare y′ m′ d′) y m d s w z = refl
-order-moment (D.Moment y′ m′ d′ s′ west zone) y m d s w z = refl
-
-pub order-given : (from to : Date) (a b : ℕ) → a ≡ writtenIn from → b ≡ writtenIn to → (to ≡ D.Absent → ⊥) → leb a b ≡ inOrder (dateOf from) (dateOf to)
-order-given from D.Absent a b e f n = absurd (n refl)
-order-given from (D.Bare y m d) a b e f n = ap (λ x. leb x b) e ∙ ap (leb (writtenIn from)) f ∙ order-bare from y m d
-order-given from (D.Moment y m d s w z) a b e f n = ap (λ x. leb x b) e ∙ ap (leb (writtenIn from)) f ∙ order-moment from y m d s w z
-
-pub bare-given : {y m d : ℕ} {to : Date} → to ≡ D.Bare y m d → to ≡ D.Absent → ⊥
-bare-given e f = let z : _≡_ {A = ℕ} 0 1 = cc in omega arith
-
-pub moment-given : {y m d s : ℕ} {w : Bool} {z : ℕ} {to : Date} → to ≡ D.Moment y m d s w z → to ≡ D.Absent → ⊥
-moment-given e f = let z : _≡_ {A = ℕ} 0 1 = cc in omega arith
 
 -- A string of the head.
 absent-only : {buffer : List ℕ} {t : Text} {text u : ℕ} → t .len ≡ 0 → PieceAt buffer t text u → u ≡ text

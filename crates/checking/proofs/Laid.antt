@@ -1,6 +1,7 @@
 -- The words of records, used and unused, as one list.
 use mathlib.Core.Path.{_≡_, refl, ap, sym, _∙_}
 use mathlib.Core.List.{List, [], _∷_, _++_}
+use mathlib.Core.Bool.{Bool, true, false}
 use Prim.Native.Nat.{ℕ, zero, suc, _+_, _*_, _-_, _≤_, _<_}
 use native.Mathlib.Omega.{arith}
 use lib.ListN.{length, drop, getD, replicate, drop-of-length-le}
@@ -8,17 +9,15 @@ use lib.Seq.{drop-cons, getD-append-add}
 use Rattle.document.specs.Table.{noRecord}
 use Rattle.document.specs.Words.{Words, allWords, rows}
 use Rattle.document.specs.declared.table.Record.{Record}
+use lib.Dec.{ltb}
+use borrow.Author.Tests.{ltb-true, ltb-false}
 use Rattle.words.specs.Standing.{Lies}
-use Rattle.words.proofs.Rowed.{rows-append}
+use Rattle.words.proofs.Rowed.{rows-append, rows-length}
 use Rattle.checking.specs.Checks.{Zeros}
 
 pub all-length : (rs : List Record) → length (allWords rs) ≡ length rs
 all-length [] = refl
 all-length (r ∷ rs) = ap suc (all-length rs)
-
-pub words-length : (rs : List Record) → length (rows (allWords rs)) ≡ length rs * 6
-words-length [] = refl
-words-length (r ∷ rs) = let e = words-length rs in omega arith
 
 pub front-lies : (ws : List ℕ) (i : ℕ) (xs ys : List Record) → Lies ws i (allWords (xs ++ ys)) → Lies ws i (allWords xs)
 front-lies ws i [] ys l = tt
@@ -38,7 +37,7 @@ none-at (suc m) (suc (suc (suc (suc (suc (suc j)))))) = none-at m j
 pub unused-zero : (rs : List Record) (m : ℕ) → Zeros (rows (allWords (rs ++ replicate m noRecord))) (length rs * 6)
 unused-zero rs m j h f =
     let xs = rows (allWords rs) in
-    let n = words-length rs in
+    let n = rows-length rs in
     let e : j ≡ length xs + (j - length rs * 6) = omega arith in
     ap (λ s. getD s j 0) (rows-append rs (replicate m noRecord))
     ∙ ap (λ i. getD (xs ++ rows (allWords (replicate m noRecord))) i 0) e
@@ -66,3 +65,10 @@ lies-rows ws (w ∷ l) i n (p, q) =
     (one-word ws (i * 6 + 3) (i * 6 + 4) (w .b) _ (omega arith) (omega arith) (p .b)
     (one-word ws (i * 6 + 4) (i * 6 + 5) (w .c) _ (omega arith) (omega arith) (p .c)
     (one-word ws (i * 6 + 5) ((i + 1) * 6) (w .d) _ (omega arith) (omega arith) (p .d) (lies-rows ws l (i + 1) (omega arith) q))))))
+
+pub zero-next : (ws : List ℕ) (j at : ℕ) → (j < at → getD ws j 0 ≡ 0) → getD ws at 0 ≡ 0 → j < at + 1 → getD ws j 0 ≡ 0
+zero-next ws j at f e h = go (ltb j at) refl
+  where
+    go : (b : Bool) → ltb j at ≡ b → getD ws j 0 ≡ 0
+    go true g = f (ltb-true j at g)
+    go false g = let k : j ≡ at = omega (arith, ltb-false j at g) in ap (λ n. getD ws n 0) k ∙ e

@@ -16,8 +16,9 @@ use Rattle.document.specs.Words.{allWords}
 use Rattle.document.specs.declared.table.Record.{Record}
 use Rattle.document.proofs.Untables.{joined-append}
 use Rattle.words.specs.Standing.{belowAt, aAt, bAt, cAt, dAt, Lies}
-use Rattle.checking.proofs.Lies.{both, moved, single-is, cyclic-is}
-use Rattle.checking.specs.Checks.{Row, Nested, StillAt, daily, single, cyclic, FreeTextAt, DetailAt, still, freeText, sequence, ObjectAt, pause, posology, ObjectsAt, last, more}
+use Rattle.doses.proofs.Lies.{both, moved, single-is, cyclic-is}
+use Rattle.doses.specs.Doses.{Row, Nested, StillAt, daily, single, cyclic}
+use Rattle.checking.specs.Checks.{FreeTextAt, DetailAt, still, freeText, sequence, ObjectAt, pause, posology, ObjectsAt, last, more}
 
 pub not-empty : (cs : List ℕ) → 1 ≤ length cs → not (isEmpty cs) ≡ true
 not-empty [] h = absurd (omega arith)

@@ -16,7 +16,7 @@ use Rattle.document.specs.Table.{textCell, lengthOf}
 use Rattle.document.specs.declared.table.Text.{Text}
 use Rattle.document.proofs.Untabled.{bytesOf}
 use Rattle.document.proofs.Good.{and-left, and-right}
-use Rattle.checking.proofs.Lies.{both}
+use Rattle.doses.proofs.Lies.{both}
 use Rattle.checking.proofs.LiesDetail.{not-empty}
 use Rattle.checking.proofs.FoundDetail.{not-none}
 use Rattle.checking.specs.Readable.{PieceAt, absent, present}

@@ -20,9 +20,10 @@ use Rattle.document.proofs.Untabled.{bytesOf, strings-append, detail-rows, deta
 use Rattle.document.proofs.Strings.{strings-size}
 use Rattle.document.proofs.Tables.{own-readable}
 use Rattle.words.specs.Standing.{Lies}
+use Rattle.words.proofs.Rowed.{rows-length}
 use Rattle.checking.proofs.LiesDetail.{DetailIs, detail-is}
 use Rattle.checking.proofs.FoundDetail.{detail-found}
-use Rattle.checking.proofs.Laid.{all-length, words-length, unused-zero, zeros-lie, lies-rows}
+use Rattle.checking.proofs.Laid.{all-length, unused-zero, zeros-lie, lies-rows}
 use Rattle.checking.proofs.Stands.{records-of, readable-stands}
 use Rattle.checking.proofs.Pieces.{PieceIs, piece-is, piece-found, piece-behind, unit-for}
 use Rattle.checking.proofs.HeadValues.{cell-date, cell-meal, valid-meal, same-head, Parts, valid-parts, parts-valid, head-right}
@@ -152,7 +153,7 @@ module _ (ws buffer : List ℕ) (h : Head) (taken u₁ u₂ u₃ text : ℕ) (d 
   value-readable : (purpose count : ℕ) (rs : List Record) → ws ≡ rows (allWords rs) → length rs ≡ 64 → HeadRight h purpose → detailRecords (d .value) ≡ count → count ≤ 64 → text ≤ 2048 → Zeros ws (count * 6) → readable purpose (record { head = h; count = count; text = text; records = rs }) buffer ≡ true
   value-readable purpose count rs e n r f most room z =
       let few : detailRecords (d .value) ≤ 64 = omega arith in
-      let size : length ws ≡ 384 = ap length e ∙ words-length rs ∙ ap (λ x. x * 6) n in
+      let size : length ws ≡ 384 = ap length e ∙ rows-length rs ∙ ap (λ x. x * 6) n in
       let same = sym (value-rows few size (subst (λ x. Zeros ws (x * 6)) (sym f) z)) ∙ e in
       subst (λ x. readable purpose (record { head = h; count = count; text = text; records = rs }) x ≡ true) (sym value-strings)
       (subst (λ x. readable purpose x (strings value ++ drop text buffer) ≡ true) (value-table count rs f same)

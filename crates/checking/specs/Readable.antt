@@ -3,28 +3,16 @@ use mathlib.Core.Path.{_≡_}
 use mathlib.Core.List.{List}
 use mathlib.Core.Bool.{Bool, true, _&&_}
 use Prim.Native.Nat.{ℕ, _+_, _*_, _≤_}
-use Rattle.document.specs.Posology.{Day}
 use Rattle.document.specs.Date.{isDate, inOrder, isSecond, isZone}
 use Rattle.document.specs.Valid.{ifGiven}
 use Rattle.document.specs.Untable.{dateOf, zoneOf}
 use Rattle.document.specs.declared.table.Text.{Text}
-use Rattle.document.specs.declared.table.Date.{Date}
-use Rattle.document.specs.declared.table.Date.the-variants as D
 use Rattle.document.specs.declared.table.Head.{Head}
 use Rattle.words.specs.Standing.{belowAt}
 use Rattle.checking.specs.Checks.{StringAt, DetailAt, Zeros}
 
-abbrev pub dayOf : ℕ → ℕ → ℕ → Day
-dayOf y m d = record { year = y; month = m; day = d }
-
 abbrev pub momentIn : ℕ → Bool → ℕ → Bool
 momentIn s west zone = isSecond s && isZone (zoneOf west zone)
-
--- The calendar date as a number, 0 where it is absent.
-abbrev pub writtenIn : Date → ℕ
-writtenIn D.Absent = 0
-writtenIn (D.Bare y m d) = (y * 100 + m) * 100 + d
-writtenIn (D.Moment y m d s west zone) = (y * 100 + m) * 100 + d
 
 -- A string of the head behind `text` bytes, with u taken after it: absent with start and length 0, or as any string.
 pub data PieceAt (buffer : List ℕ) (t : Text) (text u : ℕ) : Type 0 where

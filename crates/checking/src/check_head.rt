@@ -1,114 +1,23 @@
 // Whether a table is that of a valid posology, its strings first in the text buffer (document 01, row 18).
 use crate::check;
 use crate::check::Checked;
+use document::dates;
 use document::table::Date;
 use document::table::Head;
+use document::table::RECORDS;
 use document::table::Table;
 use document::table::Text;
+use document::table::WORDS;
+use doses::below;
 use words::table_words;
 ghost use mathlib.Core.Path.{_≡_};
-ghost use mathlib.Core.List.{[], _∷_};
-ghost use mathlib.Core.Bool.{true};
-ghost use Prim.Native.Nat.{_+_, _<_};
-ghost use lib.ListN.{length};
-ghost use Rattle.document.specs.Date.{among, leap, daysIn, isDay, isDate, inOrder};
+ghost use Rattle.document.specs.Date.{isDate};
 ghost use Rattle.document.specs.Valid.{ifGiven};
 ghost use Rattle.document.specs.Untable.{dateOf};
-ghost use Rattle.checking.specs.Checks.{Decides, Checks};
-ghost use Rattle.checking.specs.Readable.{writtenIn, dayOf, momentIn, PieceAt, PiecesAt, HeadRight, LaidAt};
+ghost use Rattle.doses.specs.Doses.{Decides};
+ghost use Rattle.checking.specs.Checks.{Checks};
+ghost use Rattle.checking.specs.Readable.{momentIn, PieceAt, PiecesAt, HeadRight, LaidAt};
 ghost use Rattle.document.specs.Write.{readable};
-
-fn is_leap(year: u64) -> bool
-    ensures { λ r. ⌜ r ≡ leap year ⌝ }
-{
-    if year % 400 == 0 {
-        return true;
-    }
-    if year % 100 == 0 {
-        return false;
-    }
-    year % 4 == 0
-}
-
-// A month of 31 days.
-fn is_long(month: u8) -> bool
-    ensures { λ r. ⌜ r ≡ among month (1 ∷ 3 ∷ 5 ∷ 7 ∷ 8 ∷ 10 ∷ 12 ∷ []) ⌝ }
-{
-    if month == 1 {
-        return true;
-    }
-    if month == 3 {
-        return true;
-    }
-    if month == 5 {
-        return true;
-    }
-    if month == 7 {
-        return true;
-    }
-    if month == 8 {
-        return true;
-    }
-    if month == 10 {
-        return true;
-    }
-    if month == 12 {
-        return true;
-    }
-    false
-}
-
-// A month of 30 days.
-fn is_short(month: u8) -> bool
-    ensures { λ r. ⌜ r ≡ among month (4 ∷ 6 ∷ 9 ∷ 11 ∷ []) ⌝ }
-{
-    if month == 4 {
-        return true;
-    }
-    if month == 6 {
-        return true;
-    }
-    if month == 9 {
-        return true;
-    }
-    if month == 11 {
-        return true;
-    }
-    false
-}
-
-fn days_in(year: u64, month: u8) -> u64
-    ensures { λ r. ⌜ r ≡ daysIn year month ⌝ }
-{
-    if is_long(month) {
-        return 31;
-    }
-    if is_short(month) {
-        return 30;
-    }
-    if month == 2 {
-        if is_leap(year) {
-            return 29;
-        }
-        return 28;
-    }
-    0
-}
-
-fn is_day(year: u16, month: u8, day: u8) -> bool
-    ensures { λ r. ⌜ r ≡ isDay (dayOf year month day) ⌝ }
-{
-    if year < 1900 {
-        return false;
-    }
-    if 2199 < year {
-        return false;
-    }
-    if day < 1 {
-        return false;
-    }
-    day as u64 <= days_in(year as u64, month)
-}
 
 fn is_moment(second: u32, west: bool, zone: u16) -> bool
     ensures { λ r. ⌜ r ≡ momentIn second west zone ⌝ }
@@ -130,7 +39,7 @@ fn is_date(d: Date) -> bool
 {
     match d {
         Date::Absent => true,
-        Date::Bare { year, month, day } => is_day(year, month, day),
+        Date::Bare { year, month, day } => dates::is_day(year as u64, month as u64, day as u64),
         Date::Moment {
             year,
             month,
@@ -139,49 +48,11 @@ fn is_date(d: Date) -> bool
             west,
             zone,
         } => {
-            if is_day(year, month, day) {
+            if dates::is_day(year as u64, month as u64, day as u64) {
                 return is_moment(second, west, zone);
             }
             false
         }
-    }
-}
-
-fn written(d: Date) -> u64
-    ensures { λ r. ⌜ r ≡ writtenIn d ⌝ }
-{
-    match d {
-        Date::Absent => 0,
-        Date::Bare { year, month, day } => (year as u64 * 100 + month as u64) * 100 + day as u64,
-        Date::Moment {
-            year,
-            month,
-            day,
-            second: _,
-            west: _,
-            zone: _,
-        } => (year as u64 * 100 + month as u64) * 100 + day as u64,
-    }
-}
-
-fn in_order(from: Date, to: Date) -> bool
-    ensures { λ r. ⌜ r ≡ inOrder (dateOf from) (dateOf to) ⌝ }
-{
-    match to {
-        Date::Absent => true,
-        Date::Bare {
-            year: _,
-            month: _,
-            day: _,
-        } => written(from) <= written(to),
-        Date::Moment {
-            year: _,
-            month: _,
-            day: _,
-            second: _,
-            west: _,
-            zone: _,
-        } => written(from) <= written(to),
     }
 }
 
@@ -196,7 +67,7 @@ fn head_right(h: Head, purpose: u64) -> bool
     }
     if is_date(from) {
         if is_date(to) {
-            if in_order(from, to) {
+            if dates::in_order(from, to) {
                 if purpose == 3 {
                     return true;
                 }
@@ -277,20 +148,19 @@ const SEQUENCES: usize = 3;
 const ROOM: usize = 2048;
 
 // The records and the strings of a table, as its head says.
-fn is_laid(words: &[u64], buffer: &[u8], h: Head, count: usize, text: usize) -> bool
-    requires { ⌜ length (now words) ≡ 384 ⌝ }
+fn is_laid(words: &[u64; WORDS], buffer: &[u8], h: Head, count: usize, text: usize) -> bool
     ensures { λ r. ⌜ Decides (LaidAt (now (words .entry)) (now (buffer .entry)) h count text) r ⌝ }
 {
     if ROOM < text {
         return false;
     }
-    if 64 < count {
+    if RECORDS < count {
         return false;
     }
     if count < 1 {
         return false;
     }
-    let n = check::below(words, 0);
+    let n = below(words, 0);
     if count - 1 == n {
         let c = check::detail(words, 0, SEQUENCES, buffer, 0);
         if c.good {

@@ -6,7 +6,7 @@ pub mod Same
 pub mod Reorder
 pub mod OneMeaning
 pub mod Days
-pub mod Dates
+pub mod RealDates
 pub mod Makes
 pub mod Sound
 pub mod Parts
@@ -37,6 +37,7 @@ pub mod Untables
 pub mod Strings
 pub mod Untabled
 pub mod Tables
+mod Calendar
 pub mod Demand1
 pub mod Demand2
 pub mod Demand3

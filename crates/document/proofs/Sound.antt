@@ -23,7 +23,7 @@ use Rattle.document.specs.Valid.{every, isAmount}
 use Rattle.document.specs.Spells.{Meaning, Given, Perhaps, FieldsMean, BodyMeans, MembersMean, DigitsMean, CharsMean, EachMeans, ElementsMean, NumberMeans, StringMeans, BoolMeans, ObjectMeans, ListMeans, meaningOf, meantMembers, meantElements}
 use Rattle.document.proofs.Good.{sum, validOf, recordsOf, textOf, Takes, Good, GoodOption, Filled, Made, and-both, and-right}
 use Rattle.document.proofs.Days.{ascending-climbs, ascending-empty}
-use Rattle.document.proofs.Dates.{Holds, time-holds, date-holds}
+use Rattle.document.proofs.RealDates.{Holds, time-holds, date-holds}
 use Rattle.document.proofs.Makes.{takes-none, takes-then, takes-as, dosage-good, at-time-good, in-segment-good, timed-good, detail-good, object-good, posology-good}
 
 -- What holds of an outcome that is no refusal.

@@ -18,6 +18,7 @@ use Rattle.document.specs.Valid.{isText, isMeal, isUnitFor, ifGiven, val
 use Rattle.document.specs.Table.{recordsInTable, noRecord, dateCell, textCell, lengthOf, timesRows, segmentsRows, timedRows, detailRows, objectRows, objectsRows, filled, headOf, tableOf}
 use Rattle.document.specs.Words.{allWords}
 use Rattle.document.specs.Untable.{Grown, part, detailNext, textOf, dateOf, mealOf, posologyOf}
+use Rattle.document.specs.declared.table.Date.{Date}
 use Rattle.document.specs.declared.table.Record.{Record}
 use Rattle.document.proofs.Good.{and-left, and-right}
 use Rattle.document.proofs.Parts.{all-nine}
@@ -156,6 +157,9 @@ date-back none = refl
 date-back (some (P.bare d)) = refl
 date-back (some (P.moment d s (P.east n))) = refl
 date-back (some (P.moment d s (P.west n))) = refl
+
+pub order-back : (x y : Option P.Date) {from to : Date} → dateCell x ≡ from → dateCell y ≡ to → inOrder (dateOf from) (dateOf to) ≡ inOrder x y
+order-back x y e f = rw (← e, ← f, date-back x, date-back y)
 
 pub unit-text : (purpose : ℕ) (u : Option (List ℕ)) → isUnitFor purpose u ≡ true → ifGiven isText u ≡ true
 unit-text purpose none v = refl

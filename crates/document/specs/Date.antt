@@ -7,6 +7,9 @@ use lib.Dec.{eqb, leb}
 use Rattle.json.specs.Rows.{choose}
 use Rattle.document.specs.Posology.{Day, Zone, east, west, Date, bare, moment}
 
+abbrev pub dayAt : ℕ → ℕ → ℕ → Day
+dayAt y m d = record { year = y; month = m; day = d }
+
 -- Days of a month.
 unfoldable pub leap : ℕ → Bool
 leap year = cond (eqb (year % 400) 0) true (cond (eqb (year % 100) 0) false (eqb (year % 4) 0))
@@ -145,6 +148,11 @@ dateOf s = then (dayOf s) λ d. bareOr (d .value) (d .rest)
 abbrev pub written : Date → ℕ
 written (bare d) = (d .year * 100 + d .month) * 100 + d .day
 written (moment d s z) = (d .year * 100 + d .month) * 100 + d .day
+
+-- 0 where there is no date.
+abbrev pub writtenIf : Option Date → ℕ
+writtenIf none = 0
+writtenIf (some d) = written d
 
 abbrev pub inOrder : Option Date → Option Date → Bool
 inOrder none to = true

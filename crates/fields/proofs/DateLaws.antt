@@ -11,17 +11,11 @@ use borrow.Author.Tests.{leb-true, le-leb, lt-leb, eq-eqb, ne-eqb, not-true, not
 use native.Mathlib.Numerals.{add-one}
 use native.Mathlib.Omega.{arith}
 use Rattle.document.specs.Posology as P
-use Rattle.document.specs.Date.{daysIn, isDay, isDigit, pair, two, then, mark, only, clock, seconds, atMinute, alone, timeOf, dayOf, momentOf, bareOr, dateOf, zone, minutesWest, isZone, Behind, inOrder, written}
-use Rattle.document.specs.Table.{dateCell}
-use Rattle.document.specs.declared.table.Date.{Date as Cell}
-use Rattle.document.specs.declared.table.Date.the-variants as C
-use Rattle.document.proofs.table.Date as cell
-use types.Run.{OneOf, miss}
-use denote.Enum.Declared.{tagOf}
+use Rattle.document.specs.Date.{dayAt, isDay, isDigit, pair, two, then, mark, only, clock, seconds, atMinute, alone, timeOf, dayOf, momentOf, bareOr, dateOf, zone, minutesWest, isZone, Behind}
 use Rattle.fields.specs.Dates.{IsDate}
 use Rattle.fields.specs.declared.date.Dated.{Dated}
 use Rattle.fields.specs.declared.date.Dated.the-variants as D
-use Rattle.fields.specs.DateParts.{absentCell, marked, Numbered, year, dayAt, IsDayOf, zoneOf, Zoned, IsDateOf, writtenCell}
+use Rattle.fields.specs.DateParts.{marked, Numbered, year, IsDayOf, zoneOf, Zoned, IsDateOf}
 
 -- Chains of steps that may fail.
 pub then-none : {A B : Type 0} {o : Option A} (f : A → Option B) → o ≡ none → then o f ≡ none
@@ -93,12 +87,6 @@ module _ (bytes : List ℕ) (at : ℕ) (h : at + 2 ≤ length bytes) where
       → Numbered bytes (two (drop at bytes)) (at + 2) 99 (pair a b)
   two-digits r q a b k e l f i j =
       record { outcome = two-here ∙ rw (← k, not-false r e, ← l, not-false q f, i, j); small = rw (i, j) (omega (arith, digit-most (getD bytes at 0) r k e, digit-most (getD bytes (at + 1) 0) q l f)); inside = h }
-
--- Days.
-pub no-month : (y m : ℕ) → (m ≡ 1 → ⊥) → (m ≡ 2 → ⊥) → (m ≡ 3 → ⊥) → (m ≡ 4 → ⊥) → (m ≡ 5 → ⊥) → (m ≡ 6 → ⊥) → (m ≡ 7 → ⊥) → (m ≡ 8 → ⊥) → (m ≡ 9 → ⊥) → (m ≡ 10 → ⊥) → (m ≡ 11 → ⊥) → (m ≡ 12 → ⊥) → 0 ≡ daysIn y m
-unfolding daysIn
-no-month y m n1 n2 n3 n4 n5 n6 n7 n8 n9 n10 n11 n12 =
-    rw (ne-eqb m 1 n1, ne-eqb m 3 n3, ne-eqb m 5 n5, ne-eqb m 7 n7, ne-eqb m 8 n8, ne-eqb m 10 n10, ne-eqb m 12 n12, ne-eqb m 4 n4, ne-eqb m 6 n6, ne-eqb m 9 n9, ne-eqb m 11 n11, ne-eqb m 2 n2)
 
 -- yyyy-mm-dd, from the year on.
 abbrev dayFrom : Behind ℕ → Option (Behind P.Day)
@@ -411,24 +399,3 @@ module _ (bytes : List ℕ) where
     pub a-date : (length bytes ≡ 10 → ⊥) → (x : Dated) → IsDateOf (momentOf (dayAt y m d) (drop 10 bytes)) x → IsDate bytes x
     a-date n (D.Is x) (z, g, c) = (z, from-date n ∙ g, c)
     a-date n D.Not g = from-date n ∙ g
-
--- The order of two dates of the table.
-written-cell : (x : P.Date) → writtenCell (dateCell (some x)) ≡ written x
-written-cell (P.bare d) = refl
-written-cell (P.moment d s (P.east n)) = refl
-written-cell (P.moment d s (P.west n)) = refl
-
-cell-there : (x : P.Date) → absentCell (dateCell (some x)) ≡ false
-cell-there (P.bare d) = refl
-cell-there (P.moment d s (P.east n)) = refl
-cell-there (P.moment d s (P.west n)) = refl
-
-pub in-order-none : (to : Cell) → to ≡ C.Absent → (x y : Option P.Date) → dateCell y ≡ to → true ≡ inOrder x y
-in-order-none to e none y k = refl
-in-order-none to e (some x) none k = refl
-in-order-none to e (some x) (some y) k = absurd (false≢true (sym (cell-there y) ∙ ap absentCell (k ∙ e)))
-
-pub in-order-some : (from to : Cell) (a b : ℕ) → OneOf (1 ∷ 2 ∷ []) (tagOf cell.the-type to) → a ≡ writtenCell from → b ≡ writtenCell to → (x y : Option P.Date) → dateCell x ≡ from → dateCell y ≡ to → leb a b ≡ inOrder x y
-in-order-some from to a b h p q none y k l = rw (p, ← k) (le-leb 0 b (omega arith))
-in-order-some from to a b h p q (some x) none k l = absurd (miss (1 ∷ 2 ∷ []) 0 tt (rw (← l) at h))
-in-order-some from to a b h p q (some x) (some y) k l = rw (p, q, ← k, ← l, written-cell x, written-cell y)

@@ -2,15 +2,13 @@
 use Prim.Native.Nat.{ℕ, _+_, _*_, _≤_}
 use mathlib.Core.Path.{_≡_}
 use mathlib.Core.List.{List, [], _∷_}
-use mathlib.Core.Bool.{Bool, true, false}
+use mathlib.Core.Bool.{Bool, false}
 use mathlib.Core.Option.{Option, none, some}
 use lib.ListN.{length, drop}
 use lib.Dec.{eqb}
 use Rattle.document.specs.Posology as P
-use Rattle.document.specs.Date.{Behind, two, then, only, isZone, signed, dayOf}
+use Rattle.document.specs.Date.{Behind, two, then, only, isZone, signed, dayAt, dayOf}
 use Rattle.document.specs.Table.{withZone}
-use Rattle.document.specs.declared.table.Date.{Date as Cell}
-use Rattle.document.specs.declared.table.Date.the-variants as C
 use Rattle.fields.specs.declared.date.Dated.{Dated}
 use Rattle.fields.specs.declared.date.Dated.the-variants as D
 use Rattle.fields.specs.declared.date.Pair.{Pair}
@@ -37,9 +35,6 @@ Numbers bytes o end most N.Not = o ≡ none
 abbrev pub year : List ℕ → Option (Behind ℕ)
 year s = then (two s) λ c. then (two (c .rest)) λ y. some (record { value = c .value * 100 + y .value; rest = y .rest })
 
-abbrev pub dayAt : ℕ → ℕ → ℕ → P.Day
-dayAt y m d = record { year = y; month = m; day = d }
-
 pub record IsDayOf (bytes : List ℕ) (y m d : ℕ) : Type 0 where
   pub outcome : dayOf bytes ≡ some (record { value = dayAt y m d; rest = drop 10 bytes })
   pub year : y ≤ 9999
@@ -63,17 +58,6 @@ Zoned d s o D.Not = o ≡ none
 abbrev pub IsDateOf : Option P.Date → Dated → Type 0
 IsDateOf o (D.Is d) = (x : P.Date) × (o ≡ some x) × (Rattle.document.specs.Table.dateCell (some x) ≡ d)
 IsDateOf o D.Not = o ≡ none
-
--- A date of the table as a number that grows with the day; 0 where it is absent.
-abbrev pub writtenCell : Cell → ℕ
-writtenCell C.Absent = 0
-writtenCell (C.Bare y m d) = (y * 100 + m) * 100 + d
-writtenCell (C.Moment y m d s w z) = (y * 100 + m) * 100 + d
-
-abbrev pub absentCell : Cell → Bool
-absentCell C.Absent = true
-absentCell (C.Bare y m d) = false
-absentCell (C.Moment y m d s w z) = false
 
 -- What a day's bounds are, for numbers of fewer bits.
 pub record Small (y m d : ℕ) : Type 0 where

@@ -1,14 +1,12 @@
 // Dates and times of day by the bytes that they are written with (document 01, "Dates").
+use document::dates::is_day;
 use document::table::Date;
 ghost use mathlib.Core.Path.{_≡_};
-ghost use mathlib.Core.Option.{Option};
 ghost use Prim.Native.Nat.{_+_, _≤_};
 ghost use lib.ListN.{drop};
-ghost use Rattle.document.specs.Posology as P;
-ghost use Rattle.document.specs.Date.{leap, daysIn, isDay, isDigit, two, clock, seconds, momentOf, inOrder};
-ghost use Rattle.document.specs.Table.{dateCell};
+ghost use Rattle.document.specs.Date.{dayAt, isDigit, two, clock, seconds, momentOf};
 ghost use Rattle.fields.specs.Dates.{IsDate, IsTime};
-ghost use Rattle.fields.specs.DateParts.{marked, Numbers, year as yearOf, dayAt, DayOf, zoneOf, Zoned, IsDateOf, writtenCell, Small};
+ghost use Rattle.fields.specs.DateParts.{marked, Numbers, year as yearOf, DayOf, zoneOf, Zoned, IsDateOf, Small};
 
 pub enum Dated {
     Is(Date),
@@ -75,60 +73,6 @@ fn is_at(bytes: &[u8], at: usize, mark: u8) -> bool
         return bytes[at] == mark;
     }
     false
-}
-
-fn is_leap(year: u64) -> bool
-    ensures { λ r. ⌜ r ≡ leap year ⌝ }
-{
-    if year % 400 == 0 {
-        return true;
-    }
-    if year % 100 == 0 {
-        return false;
-    }
-    year % 4 == 0
-}
-
-// Real Gregorian days: how many a month has, by its number; 0 where there is no such month.
-fn days_in(year: u64, month: u64) -> u64
-    ensures { λ r. ⌜ r ≡ daysIn year month ⌝ }
-{
-    match month {
-        1 => 31,
-        2 => {
-            if is_leap(year) {
-                return 29;
-            }
-            28
-        }
-        3 => 31,
-        4 => 30,
-        5 => 31,
-        6 => 30,
-        7 => 31,
-        8 => 31,
-        9 => 30,
-        10 => 31,
-        11 => 30,
-        12 => 31,
-        _ => 0,
-    }
-}
-
-// Years 1900 to 2199.
-fn is_day(year: u64, month: u64, day: u64) -> bool
-    ensures { λ r. ⌜ r ≡ isDay (dayAt year month day) ⌝ }
-{
-    if year < 1900 {
-        return false;
-    }
-    if 2199 < year {
-        return false;
-    }
-    if day < 1 {
-        return false;
-    }
-    day <= days_in(year, month)
 }
 
 // yyyy
@@ -319,32 +263,4 @@ pub(crate) fn date_of(bytes: &[u8]) -> Dated
         });
     }
     moment_of(bytes, year, month, day)
-}
-
-// A date as a number that grows with the day; 0 where it is absent.
-fn written(d: Date) -> u64
-    ensures { λ r. ⌜ r ≡ writtenCell d ⌝ }
-{
-    match d {
-        Date::Absent => 0,
-        Date::Bare { year, month, day } => (year as u64 * 100 + wide(month)) * 100 + wide(day),
-        Date::Moment {
-            year,
-            month,
-            day,
-            second: _,
-            west: _,
-            zone: _,
-        } => (year as u64 * 100 + wide(month)) * 100 + wide(day),
-    }
-}
-
-// "dtTo may not be before dtFrom; the calendar dates as written are compared"
-pub fn in_order(from: Date, to: Date) -> bool
-    ensures { λ r. ⌜ ((x y : Option P.Date) → dateCell x ≡ from → dateCell y ≡ to → r ≡ inOrder x y) ⌝ }
-{
-    match to {
-        Date::Absent => true,
-        _ => written(from) <= written(to),
-    }
 }

@@ -1,7 +1,7 @@
 // The head of a posology (document 01, "Objects": Posology).
+use document::dates;
 use document::table::Date;
 use document::table::WORDS;
-use fields::date;
 use fields::field;
 use fields::field::DateField;
 use fields::field::Field;
@@ -193,7 +193,7 @@ fn with_strings(
     };
     let from = h.from;
     let to = h.to;
-    if !date::in_order(from, to) {
+    if !dates::in_order(from, to) {
         return refused(12, at);
     }
     HeadRead {

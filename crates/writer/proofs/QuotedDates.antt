@@ -13,7 +13,7 @@ use Rattle.document.specs.Spell.{escaped, quoted}
 use Rattle.document.specs.Plain.{two, clock, timeText, dayText, zoneText, dateText}
 use Rattle.document.specs.declared.table.Date.{Date}
 use Rattle.document.specs.declared.table.Date.the-variants.{Absent, Bare, Moment}
-use Rattle.document.proofs.Dates.{Holds}
+use Rattle.document.proofs.RealDates.{Holds}
 use Rattle.document.proofs.Sizes.{escapedRows}
 use Rattle.plain.proofs.HeadParts.{Small, day-small, moment-small}
 

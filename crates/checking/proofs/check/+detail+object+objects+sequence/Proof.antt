@@ -1,6 +1,6 @@
 use Prim.Native.Nat.{ℕ, _+_, _-_, _*_, _<_}
 use native.Mathlib.Omega.{arith}
-use Rattle.checking.proofs.Details.{refuted, detail-inside, object-inside, object-few, detail-still, detail-free, detail-rest, no-object, object-pause, object-posology, Alike, objects-last, objects-more, objects-bad, objects-over, in-sequence}
+use Rattle.checking.proofs.Details.{refuted, before-detail, object-inside, object-few, detail-still, detail-free, detail-rest, no-object, object-pause, object-posology, Alike, objects-last, objects-more, objects-bad, objects-over, in-sequence}
 use borrow.Fn.Kinds.{In}
 use borrow.Fn.PlainCycle.{Measures, is, falls, and}
 use Rattle.checking.proofs.check.detail.Reads as detail
@@ -15,11 +15,11 @@ use Rattle.checking.proofs.check.+detail+object+objects+sequence.Lts-ob
 use Rattle.checking.proofs.check.sequence.Reads as sequence
 use Rattle.checking.proofs.check.sequence.Kinds as sequence-kinds
 use Rattle.checking.proofs.check.+detail+object+objects+sequence.Lts-sequence as sequence-lts
-use Rattle.checking.proofs.check.below.Reads as below-reads
+use Rattle.doses.proofs.below.Reads as below-reads
 use Rattle.checking.proofs.check.free_text.Reads as free-text-reads
-use Rattle.checking.proofs.check.nested.Reads as nested-reads
-use Rattle.checking.proofs.check.row.Reads as row-reads
-use Rattle.checking.proofs.check.still.Reads as still-reads
+use Rattle.doses.proofs.nested.Reads as nested-reads
+use Rattle.doses.proofs.row.Reads as row-reads
+use Rattle.doses.proofs.still.Reads as still-reads
 use Rattle.checking.proofs.check.text_length.Reads as text-length-reads
 use Rattle.checking.proofs.check.+detail+object+objects+sequence.{statement}
 use Rattle.checking.proofs.check.+detail+object+objects+sequence.Tie.{close}
@@ -71,7 +71,7 @@ detail-still-requires : (t : ℕ) → detail-lts.Need-still-requires (
   sequence-below t,
   sequence.Post,
 ) (detail-at t) detail.Post
-detail-still-requires t c κs = c .before .before .pre .1
+detail-still-requires t c κs = tt
 
 detail-returns : (t : ℕ) → detail-lts.Need-returns (
   still-reads.Asked,
@@ -95,7 +95,7 @@ detail-free-text-requires : (t : ℕ) → detail-lts.Need-free-text-requires (
   sequence-below t,
   sequence.Post,
 ) (detail-at t) detail.Post
-detail-free-text-requires t c κs = c .before .before .before .before .pre .1
+detail-free-text-requires t c κs = tt
 
 detail-text-length-requires : (t : ℕ) → detail-lts.Need-text-length-requires (
   still-reads.Asked,
@@ -107,7 +107,7 @@ detail-text-length-requires : (t : ℕ) → detail-lts.Need-text-length-requires
   sequence-below t,
   sequence.Post,
 ) (detail-at t) detail.Post
-detail-text-length-requires t c κs = (c .before .before .before .before .before .before .pre .1, c .before .free-text .ensures .yes (c .if2 .taken) .row .inside)
+detail-text-length-requires t c κs = c .before .free-text .ensures .yes (c .if2 .taken) .row .inside
 
 detail-add-t9 : (t : ℕ) → detail-lts.Need-add-t9 (
   still-reads.Asked,
@@ -143,7 +143,7 @@ detail-sequence-requires : (t : ℕ) → detail-lts.Need-sequence-requires (
   sequence-below t,
   sequence.Post,
 ) (detail-at t) detail.Post
-detail-sequence-requires t c κs = (omega (arith, c .before .before .before .before .before .before .pre .0), c .before .before .before .before .before .before .pre .1)
+detail-sequence-requires t c κs = (omega (arith, c .before .before .before .before .before .pre .0), tt)
 
 detail-returns-3 : (t : ℕ) → detail-lts.Need-returns-3 (
   still-reads.Asked,
@@ -165,7 +165,7 @@ object-row-requires : (t : ℕ) → object-lts.Need-row-requires (
   nested-reads.Asked,
   nested-reads.Learnt,
 ) (object-at t) object.Post
-object-row-requires t c κs = c .before .before .pre .1
+object-row-requires t c κs = tt
 
 object-returns : (t : ℕ) → object-lts.Need-returns (
   row-reads.Asked,
@@ -185,7 +185,7 @@ object-row-requires-2 : (t : ℕ) → object-lts.Need-row-requires-2 (
   nested-reads.Asked,
   nested-reads.Learnt,
 ) (object-at t) object.Post
-object-row-requires-2 t c κs = c .before .before .before .before .pre .1
+object-row-requires-2 t c κs = tt
 
 object-add-detail : (t : ℕ) → object-lts.Need-add-detail (
   row-reads.Asked,
@@ -205,7 +205,7 @@ object-detail-requires : (t : ℕ) → object-lts.Need-detail-requires (
   nested-reads.Asked,
   nested-reads.Learnt,
 ) (object-at t) object.Post
-object-detail-requires t c κs = (omega (arith, c .before .before .before .before .before .before .pre .0), c .before .before .before .before .before .before .pre .1)
+object-detail-requires t c κs = (omega (arith, c .before .before .before .before .before .pre .0), tt)
 
 object-nested-requires : (t : ℕ) → object-lts.Need-nested-requires (
   row-reads.Asked,
@@ -215,7 +215,7 @@ object-nested-requires : (t : ℕ) → object-lts.Need-nested-requires (
   nested-reads.Asked,
   nested-reads.Learnt,
 ) (object-at t) object.Post
-object-nested-requires t c κs = (c .before .before .before .before .before .before .before .before .pre .1, (let h = detail-inside (c .before .detail .ensures .yes (c .if3 .taken)) in omega arith))
+object-nested-requires t c κs = tt
 
 object-returns-2 : (t : ℕ) → object-lts.Need-returns-2 (
   row-reads.Asked,
@@ -225,7 +225,7 @@ object-returns-2 : (t : ℕ) → object-lts.Need-returns-2 (
   nested-reads.Asked,
   nested-reads.Learnt,
 ) (object-at t) object.Post
-object-returns-2 t c = object-posology (c .before .before .before .before .before .row2 .ensures .yes (c .before .before .before .before .if2 .taken)) (c .before .nested .ensures .yes (c .if4 .taken)) (c .before .before .before .detail .ensures) (c .before .before .if3 .taken)
+object-returns-2 t c = object-posology (c .before .before .before .before .before .row2 .ensures .yes (c .before .before .before .before .if2 .taken)) (c .before .nested .ensures (before-detail (c .before .before .before .detail .ensures .yes (c .before .before .if3 .taken))) .yes (c .if4 .taken)) (c .before .before .before .detail .ensures) (c .before .before .if3 .taken)
 
 object-returns-3 : (t : ℕ) → object-lts.Need-returns-3 (
   row-reads.Asked,
@@ -235,7 +235,7 @@ object-returns-3 : (t : ℕ) → object-lts.Need-returns-3 (
   nested-reads.Asked,
   nested-reads.Learnt,
 ) (object-at t) object.Post
-object-returns-3 t c = refuted (λ u. no-object (c .before .before .before .before .before .before .before .row .ensures .no (c .before .before .before .before .before .before .if1 .left)) (λ r d n. c .before .nested .ensures .no (c .if4 .left) n))
+object-returns-3 t c = refuted (λ u. no-object (c .before .before .before .before .before .before .before .row .ensures .no (c .before .before .before .before .before .before .if1 .left)) (λ r d n. c .before .nested .ensures (before-detail d) .no (c .if4 .left) n))
 
 object-returns-4 : (t : ℕ) → object-lts.Need-returns-4 (
   row-reads.Asked,
@@ -277,7 +277,7 @@ objects-object-requires : (t : ℕ) → objects-lts.Need-object-requires (
   below-reads.Asked,
   below-reads.Learnt,
 ) (objects-at t) objects.Post objects-Inv-loop objects-μ-loop
-objects-object-requires t c κs = (omega (arith, c .before .before .before .before .pre .0), c .before .before .before .before .pre .1 .0)
+objects-object-requires t c κs = (omega (arith, c .before .before .before .pre .0), tt)
 
 objects-below-requires : (t : ℕ) → objects-lts.Need-below-requires (
   object-below t,
@@ -285,7 +285,7 @@ objects-below-requires : (t : ℕ) → objects-lts.Need-below-requires (
   below-reads.Asked,
   below-reads.Learnt,
 ) (objects-at t) objects.Post objects-Inv-loop objects-μ-loop
-objects-below-requires t c κs = (c .before .before .before .before .before .before .pre .1 .0, object-inside (c .before .object .ensures .yes (c .if1 .taken)))
+objects-below-requires t c κs = tt
 
 objects-add-next : (t : ℕ) → objects-lts.Need-add-next (
   object-below t,
@@ -301,7 +301,7 @@ objects-add-next-2 : (t : ℕ) → objects-lts.Need-add-next-2 (
   below-reads.Asked,
   below-reads.Learnt,
 ) (objects-at t) objects.Post objects-Inv-loop objects-μ-loop
-objects-add-next-2 t c = omega (arith, object-inside (c .before .before .object .ensures .yes (c .before .if1 .taken)), object-few (c .before .before .object .ensures .yes (c .before .if1 .taken)), c .below .ensures)
+objects-add-next-2 t c = let o = c .before .before .object .ensures .yes (c .before .if1 .taken) in omega (arith, object-inside o, object-few o, c .below .ensures (object-inside o))
 
 objects-returns : (t : ℕ) → objects-lts.Need-returns (
   object-below t,
@@ -309,7 +309,7 @@ objects-returns : (t : ℕ) → objects-lts.Need-returns (
   below-reads.Asked,
   below-reads.Learnt,
 ) (objects-at t) objects.Post objects-Inv-loop objects-μ-loop
-objects-returns t c = objects-last (c .before .before .before .before .before .loop .inv) (c .before .before .before .object .ensures) (c .before .before .if1 .taken) (omega (arith, c .before .below .ensures, c .if2 .taken))
+objects-returns t c = objects-last (c .before .before .before .before .before .loop .inv) (c .before .before .before .object .ensures) (c .before .before .if1 .taken) (omega (arith, c .before .below .ensures (object-inside (c .before .before .before .object .ensures .yes (c .before .before .if1 .taken))), c .if2 .taken))
 
 objects-loop-less : (t : ℕ) → objects-lts.Need-loop-less (
   object-below t,
@@ -325,7 +325,7 @@ objects-loop-again : (t : ℕ) → objects-lts.Need-loop-again (
   below-reads.Asked,
   below-reads.Learnt,
 ) (objects-at t) objects.Post objects-Inv-loop objects-μ-loop
-objects-loop-again t c = objects-more (c .before .before .before .object .result) _ (c .before .before .before .before .before .loop .inv) (c .before .before .before .object .ensures) (c .before .before .if1 .taken) (omega (arith, c .before .below .ensures)) (c .if2 .left)
+objects-loop-again t c = objects-more (c .before .before .before .object .result) _ (c .before .before .before .before .before .loop .inv) (c .before .before .before .object .ensures) (c .before .before .if1 .taken) (omega (arith, c .before .below .ensures (object-inside (c .before .before .before .object .ensures .yes (c .before .before .if1 .taken))))) (c .if2 .left)
 
 objects-returns-2 : (t : ℕ) → objects-lts.Need-returns-2 (
   object-below t,
@@ -361,7 +361,7 @@ sequence-row-requires : (t : ℕ) → sequence-lts.Need-row-requires (
   objects-below t,
   objects.Post,
 ) (sequence-at t) sequence.Post
-sequence-row-requires t c κs = c .before .before .before .pre .1
+sequence-row-requires t c κs = tt
 
 sequence-add-first : (t : ℕ) → sequence-lts.Need-add-first (
   row-reads.Asked,
@@ -381,7 +381,7 @@ sequence-below-requires : (t : ℕ) → sequence-lts.Need-below-requires (
   objects-below t,
   objects.Post,
 ) (sequence-at t) sequence.Post
-sequence-below-requires t c κs = (c .before .before .before .before .before .pre .1, c .before .row .ensures .yes (c .if2 .taken) .inside)
+sequence-below-requires t c κs = tt
 
 sequence-add-end : (t : ℕ) → sequence-lts.Need-add-end (
   row-reads.Asked,
@@ -391,7 +391,7 @@ sequence-add-end : (t : ℕ) → sequence-lts.Need-add-end (
   objects-below t,
   objects.Post,
 ) (sequence-at t) sequence.Post
-sequence-add-end t c = (let r = c .before .before .row .ensures .yes (c .before .if2 .taken) in omega (arith, r .inside, r .below-most, c .below .ensures))
+sequence-add-end t c = let r = c .before .before .row .ensures .yes (c .before .if2 .taken) in omega (arith, r .inside, r .below-most, c .below .ensures (r .inside))
 
 sequence-objects-requires : (t : ℕ) → sequence-lts.Need-objects-requires (
   row-reads.Asked,
@@ -401,7 +401,7 @@ sequence-objects-requires : (t : ℕ) → sequence-lts.Need-objects-requires (
   objects-below t,
   objects.Post,
 ) (sequence-at t) sequence.Post
-sequence-objects-requires t c κs = (omega (arith, c .before .before .before .before .before .before .pre .0), (c .before .before .before .before .before .before .pre .1, (let r = c .before .before .row .ensures .yes (c .before .if2 .taken) in omega (arith, r .inside, r .below-most, c .below .ensures))))
+sequence-objects-requires t c κs = (omega (arith, c .before .before .before .before .before .pre .0), (let r = c .before .before .row .ensures .yes (c .before .if2 .taken) in omega (arith, r .inside, r .below-most, c .below .ensures (r .inside))))
 
 sequence-returns-2 : (t : ℕ) → sequence-lts.Need-returns-2 (
   row-reads.Asked,
@@ -411,7 +411,7 @@ sequence-returns-2 : (t : ℕ) → sequence-lts.Need-returns-2 (
   objects-below t,
   objects.Post,
 ) (sequence-at t) sequence.Post
-sequence-returns-2 t c = in-sequence (c .before .before .before .before .if1 .left) (c .before .before .before .row .ensures .yes (c .before .before .if2 .taken)) (omega (arith, c .before .below .ensures)) (c .objects .ensures)
+sequence-returns-2 t c = in-sequence (c .before .before .before .before .if1 .left) (c .before .before .before .row .ensures .yes (c .before .before .if2 .taken)) (omega (arith, c .before .below .ensures (c .before .before .before .row .ensures .yes (c .before .before .if2 .taken) .inside))) (c .objects .ensures)
 
 sequence-returns-3 : (t : ℕ) → sequence-lts.Need-returns-3 (
   row-reads.Asked,

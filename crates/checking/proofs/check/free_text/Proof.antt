@@ -2,7 +2,7 @@ use mathlib.Core.Path.{sym, _∙_}
 use mathlib.Core.Bool.{true≢false}
 use native.Mathlib.Omega.{arith}
 use borrow.Author.Needs.{needs}
-use Rattle.checking.proofs.Decided.{yes-of, no-of}
+use Rattle.doses.proofs.Decided.{yes-of, no-of}
 use Rattle.checking.proofs.check.free_text.Statement.{statement}
 use Rattle.checking.proofs.check.free_text.Tie as tie
 
@@ -16,7 +16,7 @@ row-requires : tie.Need-row-requires
 row-requires c κs = search needs
 
 text-length-requires : tie.Need-text-length-requires
-text-length-requires c κs = (search needs, c .before .row .ensures .yes (c .if2 .taken) .inside)
+text-length-requires c κs = c .before .row .ensures .yes (c .if2 .taken) .inside
 
 utf8-part-requires : tie.Need-utf8-part-requires
 utf8-part-requires c κs = omega (arith, c .text-length .ensures, c .before .before .row .ensures .yes (c .before .if2 .taken) .b-most, c .before .before .before .if1 .left)

@@ -2,7 +2,7 @@ use mathlib.Core.Path.{sym, _∙_}
 use mathlib.Core.Bool.{true≢false}
 use native.Mathlib.Omega.{arith}
 use borrow.Author.Needs.{needs}
-use Rattle.checking.proofs.Decided.{yes-of, no-of}
+use Rattle.doses.proofs.Decided.{yes-of, no-of}
 use Rattle.checking.proofs.check.string.Statement.{statement}
 use Rattle.checking.proofs.check.string.Tie as tie
 

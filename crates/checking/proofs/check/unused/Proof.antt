@@ -3,7 +3,8 @@ use Prim.Native.Nat.{ℕ, _-_, _*_, _≤_, _<_}
 use native.Mathlib.Omega.{arith}
 use lib.ListN.{length}
 use borrow.Author.Needs.{needs}
-use Rattle.checking.proofs.Decided.{yes-of, no-of, zero-next}
+use Rattle.doses.proofs.Decided.{yes-of, no-of}
+use Rattle.checking.proofs.Laid.{zero-next}
 use lib.ListN.{getD}
 use Rattle.checking.proofs.check.unused.Statement.{statement}
 use Rattle.checking.proofs.check.unused.Tie as tie

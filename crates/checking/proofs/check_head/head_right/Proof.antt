@@ -1,7 +1,7 @@
 use mathlib.Core.Path.{sym, _∙_}
 use native.Mathlib.Omega.{arith}
 use borrow.Author.Needs.{needs}
-use Rattle.checking.proofs.Decided.{yes-of, no-of}
+use Rattle.doses.proofs.Decided.{yes-of, no-of}
 use mathlib.Core.Bool.{true≢false}
 use Rattle.checking.proofs.check_head.head_right.Statement.{statement}
 use Rattle.checking.proofs.check_head.head_right.Tie as tie

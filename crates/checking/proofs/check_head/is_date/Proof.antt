@@ -1,3 +1,4 @@
+-- A date of the table, or none.
 use mathlib.Core.Path.{sym, _∙_}
 use Rattle.checking.proofs.Heads.{with-day, without-day}
 use borrow.Author.Needs.{needs}
@@ -10,11 +11,29 @@ enum-told c = search needs
 enum-known-d : tie.Need-enum-known-d
 enum-known-d c = search needs
 
+cast-is-day : tie.Need-cast-is-day
+cast-is-day c = search needs
+
+cast-is-day-2 : tie.Need-cast-is-day-2
+cast-is-day-2 c = search needs
+
+cast-is-day-3 : tie.Need-cast-is-day-3
+cast-is-day-3 c = search needs
+
 is-day-requires : tie.Need-is-day-requires
 is-day-requires c κs = search needs
 
 enum-known-d-2 : tie.Need-enum-known-d-2
 enum-known-d-2 c = search needs
+
+cast-is-day-4 : tie.Need-cast-is-day-4
+cast-is-day-4 c = search needs
+
+cast-is-day-5 : tie.Need-cast-is-day-5
+cast-is-day-5 c = search needs
+
+cast-is-day-6 : tie.Need-cast-is-day-6
+cast-is-day-6 c = search needs
 
 is-day-requires-2 : tie.Need-is-day-requires-2
 is-day-requires-2 c κs = search needs
@@ -40,8 +59,14 @@ is-date-spec =
     (tie.spec
     enum-told
     enum-known-d
+    cast-is-day
+    cast-is-day-2
+    cast-is-day-3
     is-day-requires
     enum-known-d-2
+    cast-is-day-4
+    cast-is-day-5
+    cast-is-day-6
     is-day-requires-2
     is-moment-requires
     returns

@@ -1,7 +1,6 @@
-use mathlib.Core.Path.{refl, ap, sym, _∙_}
-use native.Mathlib.Omega.{arith}
-use lib.ListN.{length, length-map}
-use Rattle.checking.proofs.Laid.{words-length}
+-- A table is readable exactly when its head is right and its records and strings are laid so.
+use mathlib.Core.Path.{refl, sym}
+use lib.ListN.{length-map}
 use Rattle.checking.proofs.Read.{laid-readable, readable-laid, not-readable}
 use borrow.Author.Needs.{needs}
 use Rattle.checking.proofs.check_head.is_readable.Statement.{statement}
@@ -13,15 +12,8 @@ head-right-requires c κs = search needs
 table-words-requires : tie.Need-table-words-requires
 table-words-requires c κs = search needs
 
-slice-aggregate-is-laid : tie.Need-slice-aggregate-is-laid
-slice-aggregate-is-laid c = search needs
-
 is-laid-requires : tie.Need-is-laid-requires
-is-laid-requires c κs =
-    let s = c .before .before .before .before .before .before in
-    let n = simp length-map at (s .good .0 .1 .1 .1 .1 .1 .0 .1 .0 .1) in
-    let m = words-length (s .args .t .records) in
-    ap length (c .before .table-words .ensures) ∙ (omega arith)
+is-laid-requires c κs = search needs
 
 returns : tie.Need-returns
 returns c =
@@ -44,7 +36,6 @@ is-readable-spec =
     (tie.spec
     head-right-requires
     table-words-requires
-    slice-aggregate-is-laid
     is-laid-requires
     returns
     returns-2

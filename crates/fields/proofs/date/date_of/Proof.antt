@@ -3,7 +3,7 @@ use borrow.Author.Needs.{needs}
 use mathlib.Core.Path.{refl}
 use native.Mathlib.Omega.{arith}
 use Rattle.document.specs.Posology as P
-use Rattle.fields.specs.DateParts.{dayAt}
+use Rattle.document.specs.Date.{dayAt}
 use Rattle.fields.proofs.DateLaws.{no-date, a-bare-date, a-date}
 use Rattle.fields.proofs.date.date_of.Statement.{statement}
 use Rattle.fields.proofs.date.date_of.Tie as tie

@@ -1,6 +1,6 @@
 -- A time and a zone behind a day.
 use borrow.Author.Needs.{needs}
-use Rattle.fields.specs.DateParts.{dayAt}
+use Rattle.document.specs.Date.{dayAt}
 use Rattle.fields.proofs.DateLaws.{no-t, moment-no-clock, moment-no-seconds, moment-no-zone, moment-no-zone-clock, moment-not-over, a-moment}
 use Rattle.fields.proofs.date.moment_of.Statement.{statement}
 use Rattle.fields.proofs.date.moment_of.Tie as tie

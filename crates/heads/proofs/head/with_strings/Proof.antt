@@ -5,6 +5,7 @@ use native.Mathlib.Omega.{arith}
 use lib.Dec.{eqb}
 use borrow.Author.Needs.{needs}
 use borrow.Author.Tests.{not-true, not-false}
+use Rattle.document.proofs.Untabled.{order-back}
 use Rattle.heads.proofs.HeadStrings.{head-refused, named-instr, named-roa, named-moa, unit-took, unit-stops, text-took, text-stops, stops-unit, stops-instr, stops-roa, stops-moa, out-of-order, strings-read}
 use Rattle.heads.proofs.head.with_strings.Statement.{statement}
 use Rattle.heads.proofs.head.with_strings.Tie as tie
@@ -178,7 +179,7 @@ returns-5 c es n once from to reserve po meal words begun =
     let roa = text-took text es n slots once at room records 31 (omega arith) "roa" named-roa b2 (c .before .before .before .before .before .before .before .before .f3 .given .1) (c .before .before .before .before .before .before .before .before .before .before .optional-text2 .ensures .0) in
     let moa = text-took text es n slots once at room records 32 (omega arith) "moa" named-moa b3 (c .before .before .before .before .f4 .given .1) (c .before .before .before .before .before .before .optional-text3 .ensures .0) in
     head-refused (c .refused .ensures)
-    (out-of-order text es at room from to reserve po meal (s .h) words begun b unit instr roa moa (sym (c .before .before .in-order .ensures from to (begun .from) (begun .to)) ∙ not-true _ (c .before .if1 .taken)) (c .before .before .before .before .before .before .before .before .before .before .before .before .before .before .before .before .before .before .before .before .pre .0)) (begun .whole)
+    (out-of-order text es at room from to reserve po meal (s .h) words begun b unit instr roa moa (sym (order-back from to (begun .from) (begun .to)) ∙ sym (c .before .before .in-order .ensures) ∙ not-true _ (c .before .if1 .taken)) (c .before .before .before .before .before .before .before .before .before .before .before .before .before .before .before .before .before .before .before .before .pre .0)) (begun .whole)
 
 piece-at-requires : tie.Need-piece-at-requires
 piece-at-requires c κs = search needs
@@ -214,7 +215,7 @@ returns-6 c es n once from to reserve po meal words begun =
     let moa = text-took text es n slots once at room records 32 (omega arith) "moa" named-moa b3 (c .before .before .before .before .before .before .before .f4 .given .1) (c .before .before .before .before .before .before .before .before .before .optional-text3 .ensures .0) in
     strings-read text es at room from to reserve po meal (s .h) words begun b unit instr roa moa (c .before .before .before .piece-at .ensures) (c .before .before .piece-at2 .ensures) (c .before .piece-at3 .ensures) (c .piece-at4 .ensures)
     (c .before .before .before .before .before .before .before .before .before .before .before .before .before .before .before .before .before .before .before .before .before .before .before .pre .1)
-    (sym (c .before .before .before .before .before .in-order .ensures from to (begun .from) (begun .to)) ∙ not-false _ (c .before .before .before .before .if1 .left))
+    (sym (order-back from to (begun .from) (begun .to)) ∙ sym (c .before .before .before .before .before .in-order .ensures) ∙ not-false _ (c .before .before .before .before .if1 .left))
 
 pub with-strings-spec : {M : Type 1} → statement M
 with-strings-spec =
