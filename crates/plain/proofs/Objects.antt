@@ -9,9 +9,9 @@ use lib.ListN.{length}
 use borrow.Author.Tests.{eq-eqb, ne-eqb}
 use Rattle.json.specs.Tree.{Elements, noElement}
 use Rattle.words.specs.Standing.{belowAt}
-use Rattle.printing.specs.Puts.{Puts}
+use Rattle.putting.specs.Puts.{Puts}
 use Rattle.plain.specs.Prints.{Prints, Lists, ObjectPrints, ObjectsPrint, none, more}
-use Rattle.printing.proofs.Laid.{puts-none}
+use Rattle.putting.proofs.Laid.{puts-none}
 use Rattle.plain.proofs.Pieces.{PutsBytes}
 use Rattle.plain.proofs.Listing.{Listed, Next, next, listed-none, listed-more, listed-all}
 

@@ -6,7 +6,7 @@ use Prim.Native.String.{String}
 use Rattle.document.specs.Bytes.{bytes}
 use Rattle.document.specs.Spell.{spell}
 use Rattle.document.specs.Plain.{whole, amount, timeText}
-use Rattle.printing.specs.Puts.{Puts}
+use Rattle.putting.specs.Puts.{Puts}
 
 -- What a call puts, in front of anything.
 abbrev pub PutsBytes : List ℕ → ℕ → String → ℕ → List ℕ → Type 0

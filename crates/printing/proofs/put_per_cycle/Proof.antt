@@ -4,7 +4,7 @@ use mathlib.Core.List.{_∷_}
 use Prim.Native.Nat.{_%_}
 use native.Mathlib.Omega.{arith}
 use borrow.Author.Needs.{needs}
-use Rattle.printing.proofs.Laid.{puts-then, puts-as}
+use Rattle.putting.proofs.Laid.{puts-then, puts-as}
 use Rattle.printing.proofs.Cycles.{once-text, per-text}
 use Rattle.printing.proofs.put_per_cycle.Statement.{statement}
 use Rattle.printing.proofs.put_per_cycle.Tie as tie

@@ -27,8 +27,8 @@ use Rattle.plain.proofs.detail.put_free_text.Reads as put-free-text-rea
 use Rattle.plain.proofs.detail.put_pause.Reads as put-pause-reads
 use Rattle.plain.proofs.detail.put_single.Reads as put-single-reads
 use Rattle.plain.proofs.detail.put_span.Reads as put-span-reads
-use Rattle.printing.proofs.put.Reads as put-reads
-use Rattle.printing.proofs.put_all.Reads as put-all-reads
+use Rattle.putting.proofs.put.Reads as put-reads
+use Rattle.putting.proofs.put_all.Reads as put-all-reads
 use Rattle.plain.proofs.record.behind.Reads as behind-reads
 use Rattle.plain.proofs.record.tag.Reads as tag-reads
 use Rattle.plain.proofs.detail.+put_detail+put_object+put_objects+put_sequence.{statement}

@@ -1,30 +1,23 @@
 -- Strings byte by byte.
 use mathlib.Core.Path.{_≡_, refl}
-use mathlib.Core.List.{List, [], _∷_}
+use mathlib.Core.List.{List, _∷_}
 use Prim.Native.Nat.{ℕ, _+_, _<_, _≤_}
 use native.Mathlib.Omega.{arith}
 use native.Mathlib.Decide.{decLt}
-use native.Mathlib.Numerals.{add-one}
 use lib.ListN.{length, drop, getD, drop-of-length-le}
-use lib.Seq.{drop-cons}
 use Rattle.json.proofs.Rows.{under, between, beyond}
+use Rattle.json.proofs.Moves.{byte-here}
 use Rattle.document.specs.Spell.{control, escaped, quoted, spell}
 use Rattle.document.specs.Plain.{textTree}
 use Rattle.document.proofs.Sizes.{escapedRows}
 
-pub one-more : (s : List ℕ) (i : ℕ) → i < length s → drop i s ≡ getD s i 0 ∷ drop (i + 1) s
-one-more s i h = rw (add-one, drop-cons s i 0)
-
-pub none-more : (s : List ℕ) (i : ℕ) → length s ≤ i → drop i s ≡ []
-none-more s i h = drop-of-length-le s h
-
 pub quoted-one : (s : List ℕ) (i : ℕ) (k : List ℕ) → i < length s → quoted (drop i s) k ≡ escaped (getD s i 0) (quoted (drop (i + 1) s) k)
 unfolding quoted
-quoted-one s i k h = rw (one-more s i h)
+quoted-one s i k h = rw (byte-here s i h)
 
 pub quoted-none : (s : List ℕ) (i : ℕ) (k : List ℕ) → length s ≤ i → quoted (drop i s) k ≡ 34 ∷ k
 unfolding quoted
-quoted-none s i k h = rw (none-more s i h)
+quoted-none s i k h = rw (drop-of-length-le s h)
 
 pub spell-text : (s k : List ℕ) → 34 ∷ quoted s k ≡ spell (textTree s) k
 unfolding spell

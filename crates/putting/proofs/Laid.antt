@@ -8,7 +8,7 @@ use borrow.Author.Tests.{leb-true, leb-false}
 use lib.Dec.{leb}
 use lib.ListN.{length, set, length-set, length-append}
 use lib.Seq.{sets, length-sets, set-out}
-use Rattle.printing.specs.Puts.{greatestPlace, upTo, Puts}
+use Rattle.putting.specs.Puts.{greatestPlace, upTo, Puts}
 
 pub up-to : (n : ℕ) → upTo n ≡ min n greatestPlace
 up-to n = go (leb n greatestPlace) refl
