@@ -7,8 +7,7 @@ use Rattle.json.specs.Tree.{Tree, Elements, noElement, element}
 use Rattle.document.specs.Spell.{spell, firstElement, moreElements}
 use Rattle.putting.specs.Puts.{Puts}
 use Rattle.plain.specs.Prints.{Prints, Lists}
-use Rattle.putting.proofs.Laid.{puts-none, puts-then}
-use Rattle.plain.proofs.Pieces.{puts-as}
+use Rattle.putting.proofs.Laid.{puts-none, puts-then, puts-as}
 
 -- Some elements, behind others or first.
 abbrev pub elementsFrom : Bool → Elements → List ℕ → List ℕ

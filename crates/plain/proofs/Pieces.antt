@@ -21,9 +21,6 @@ PutsAmount before from name n r after = (k : List ℕ) → n < 1000000000000 →
 abbrev pub PutsTime : List ℕ → ℕ → ℕ → ℕ → List ℕ → Type 0
 PutsTime before from s r after = (k : List ℕ) → Puts before from (timeText (s % 360000) k) k r after
 
-pub puts-as : {before : List ℕ} {from : ℕ} {text same rest : List ℕ} {r : ℕ} {after : List ℕ} → text ≡ same → Puts before from same rest r after → Puts before from text rest r after
-puts-as e p = rw e p
-
--- The same, where a place and a buffer are told by an equation.
+-- A place and a buffer that an equation tells.
 pub puts-at : {before : List ℕ} {from : ℕ} {text rest : List ℕ} {r s : ℕ} {after same : List ℕ} → r ≡ s → after ≡ same → Puts before from text rest s same → Puts before from text rest r after
 puts-at e f p = rw (e, f) p

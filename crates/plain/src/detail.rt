@@ -125,9 +125,7 @@ fn put_objects(
     let mut r = i;
     let mut at = from;
     while r < end {
-        if r != i {
-            at = putting::put(out, at, b',');
-        }
+        at = dosage::put_comma(out, at, r != i);
         at = put_object(words, r, left, buffer, out, at);
         r = record::behind(words, r);
     }
