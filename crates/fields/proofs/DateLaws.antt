@@ -5,11 +5,11 @@ use mathlib.Core.List.{List, [], _∷_}
 use mathlib.Core.Bool.{Bool, true, false, cond, _&&_, not, false≢true}
 use mathlib.Core.Option.{Option, none, some}
 use lib.ListN.{length, drop, getD, length-drop, drop-of-length-le}
-use lib.Seq.{drop-cons, drop-drop}
+use lib.Seq.{drop-drop}
 use lib.Dec.{eqb, leb}
 use borrow.Author.Tests.{leb-true, le-leb, lt-leb, eq-eqb, ne-eqb, not-true, not-false}
-use native.Mathlib.Numerals.{add-one}
 use native.Mathlib.Omega.{arith}
+use Rattle.json.proofs.Moves.{byte-here}
 use Rattle.document.specs.Posology as P
 use Rattle.document.specs.Date.{dayAt, isDay, isDigit, pair, two, then, mark, only, clock, seconds, atMinute, alone, timeOf, dayOf, momentOf, bareOr, dateOf, zone, minutesWest, isZone, Behind}
 use Rattle.fields.specs.Dates.{IsDate}
@@ -52,9 +52,6 @@ digit-most b r k e = leb-true b 57 (go (leb 48 b) (sym k ∙ not-false r e))
     go : (t : Bool) → (t && leb b 57) ≡ true → leb b 57 ≡ true
     go true h = h
     go false h = absurd (false≢true h)
-
-byte-here : (s : List ℕ) (i : ℕ) → i < length s → drop i s ≡ getD s i 0 ∷ drop (i + 1) s
-byte-here s i h = rw (add-one, drop-cons s i 0)
 
 pub marked-here : (m : ℕ) (s : List ℕ) (i : ℕ) → i < length s → eqb (getD s i 0) m ≡ marked m (drop i s)
 marked-here m s i h = rw (byte-here s i h)

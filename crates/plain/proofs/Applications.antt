@@ -6,8 +6,8 @@ use native.Mathlib.Omega.{arith}
 use Rattle.json.specs.Tree.{Elements, noElement}
 use Rattle.words.specs.Standing.{tagAt, aAt}
 use Rattle.plain.specs.Prints.{Prints, DosagePrints, ApplicationPrints, atTime, inSegment, ApplicationsPrint, none, more}
-use Rattle.printing.proofs.Laid.{puts-then}
-use Rattle.plain.proofs.Pieces.{PutsBytes, PutsWhole, PutsTime, puts-as}
+use Rattle.putting.proofs.Laid.{puts-then, puts-as}
+use Rattle.plain.proofs.Pieces.{PutsBytes, PutsWhole, PutsTime}
 use Rattle.plain.proofs.Listing.{Next, next}
 use Rattle.plain.proofs.DosageTexts.{at-time-text, in-segment-text}
 

@@ -9,9 +9,8 @@ use borrow.Author.Tests.{eq-eqb, ne-eqb}
 use Rattle.document.specs.Spell.{spell, firstElement, moreElements}
 use Rattle.document.specs.Plain.{whole, daysTree}
 use Rattle.document.specs.Untable.{daysOf}
-use Rattle.printing.specs.Puts.{Puts}
-use Rattle.printing.proofs.Laid.{puts-none, puts-then}
-use Rattle.plain.proofs.Pieces.{puts-as}
+use Rattle.putting.specs.Puts.{Puts}
+use Rattle.putting.proofs.Laid.{puts-none, puts-then, puts-as}
 use Rattle.plain.proofs.Listing.{elementsFrom, next-element, last-element}
 
 -- A day that stands in the set, and one that does not.

@@ -12,10 +12,10 @@ use Rattle.document.specs.Schema.{greatestInteger}
 use Rattle.document.specs.Spell.{spell, moreMembers}
 use Rattle.document.specs.Plain.{whole, textTree, fieldIf}
 use Rattle.words.specs.Standing.{tagAt, belowAt, aAt, bAt, cAt, dAt}
-use Rattle.printing.specs.Puts.{Puts}
+use Rattle.putting.specs.Puts.{Puts}
 use Rattle.plain.specs.Prints.{Prints, Lists, TimedPrints, DetailPrints, daily, freeText, single, cyclic, sequence, ObjectPrints, posology, pause, ObjectsPrint}
-use Rattle.printing.proofs.Laid.{puts-then}
-use Rattle.plain.proofs.Pieces.{PutsBytes, PutsWhole, PutsAmount, puts-as}
+use Rattle.putting.proofs.Laid.{puts-then, puts-as}
+use Rattle.plain.proofs.Pieces.{PutsBytes, PutsWhole, PutsAmount}
 use Rattle.plain.proofs.DetailTexts.{daily-text, free-text, single-text, cyclic-text, sequence-text, posology-text, pause-text}
 
 -- What follows the timed dosage of a cycle: how often it comes in each, where that is not once.

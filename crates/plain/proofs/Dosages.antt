@@ -6,8 +6,8 @@ use native.Mathlib.Omega.{arith}
 use Rattle.json.specs.Tree.{Tree}
 use Rattle.words.specs.Standing.{tagAt, aAt, bAt, cAt, dAt}
 use Rattle.plain.specs.Prints.{Prints, Opens, DosagePrints, simple, fromTo, range}
-use Rattle.printing.proofs.Laid.{puts-then}
-use Rattle.plain.proofs.Pieces.{PutsBytes, PutsAmount, PutsWhole, puts-as}
+use Rattle.putting.proofs.Laid.{puts-then, puts-as}
+use Rattle.plain.proofs.Pieces.{PutsBytes, PutsAmount, PutsWhole}
 use Rattle.plain.proofs.DosageTexts.{simple-text, from-to-text, range-text}
 
 module _ {ws : List ℕ} {i : ℕ} where

@@ -14,7 +14,7 @@ use Rattle.document.proofs.Good.{and-left, and-right}
 use Rattle.document.proofs.WrittenDates.{small-day}
 
 pub day-twos : (y m d : ℕ) (k : List ℕ) → y ≤ 9999 → m ≤ 99 → d ≤ 99
-    → two (y / 100 % 100) (two (y % 100 % 100) (45 ∷ two (m % 100) (45 ∷ two (d % 100) k))) ≡ dayText (record { year = y; month = m; day = d }) k
+    → dayText (record { year = y; month = m; day = d }) k ≡ two (y / 100 % 100) (two (y % 100 % 100) (45 ∷ two (m % 100) (45 ∷ two (d % 100) k)))
 day-twos y m d k hy hm hd =
     let a : y / 100 % 100 ≡ y / 100 = omega arith in
     let b : y % 100 % 100 ≡ y % 100 = omega arith in
@@ -23,13 +23,13 @@ day-twos y m d k hy hm hd =
     rw (a, b, e, f)
 
 pub moment-parts : {b : ℕ} (s : ℕ) (west : Bool) (z : ℕ) (k : List ℕ) → s ≤ 86399 → z ≤ 840 → b ≡ cond west 45 43
-    → 84 ∷ timeText (s % 360000) (b ∷ clock (z % 6000) k) ≡ 84 ∷ timeText s (zoneText (zoneOf west z) ++ k)
+    → 84 ∷ timeText s (zoneText (zoneOf west z) ++ k) ≡ 84 ∷ timeText (s % 360000) (b ∷ clock (z % 6000) k)
 moment-parts s west z k hs hz h =
     let e : s % 360000 ≡ s = omega arith in
     let f : z % 6000 ≡ z = omega arith in
     rw (e, f, h) (go west)
   where
-    go : (w : Bool) → 84 ∷ timeText s (cond w 45 43 ∷ clock z k) ≡ 84 ∷ timeText s (zoneText (zoneOf w z) ++ k)
+    go : (w : Bool) → 84 ∷ timeText s (zoneText (zoneOf w z) ++ k) ≡ 84 ∷ timeText s (cond w 45 43 ∷ clock z k)
     go true = refl
     go false = refl
 

@@ -5,10 +5,9 @@ use mathlib.Core.Bool.{Bool, true, false, cond}
 use Prim.Native.Nat.{ℕ}
 use Rattle.json.specs.Tree.{Tree, Elements, noElement, element}
 use Rattle.document.specs.Spell.{spell, firstElement, moreElements}
-use Rattle.printing.specs.Puts.{Puts}
+use Rattle.putting.specs.Puts.{Puts}
 use Rattle.plain.specs.Prints.{Prints, Lists}
-use Rattle.printing.proofs.Laid.{puts-none, puts-then}
-use Rattle.plain.proofs.Pieces.{puts-as}
+use Rattle.putting.proofs.Laid.{puts-none, puts-then, puts-as}
 
 -- Some elements, behind others or first.
 abbrev pub elementsFrom : Bool → Elements → List ℕ → List ℕ

@@ -6,7 +6,7 @@ use Prim.Native.String.{String}
 use Rattle.document.specs.Bytes.{bytes}
 use Rattle.document.specs.Spell.{spell}
 use Rattle.document.specs.Plain.{whole, amount, timeText}
-use Rattle.printing.specs.Puts.{Puts}
+use Rattle.putting.specs.Puts.{Puts}
 
 -- What a call puts, in front of anything.
 abbrev pub PutsBytes : List ℕ → ℕ → String → ℕ → List ℕ → Type 0
@@ -21,9 +21,6 @@ PutsAmount before from name n r after = (k : List ℕ) → n < 1000000000000 →
 abbrev pub PutsTime : List ℕ → ℕ → ℕ → ℕ → List ℕ → Type 0
 PutsTime before from s r after = (k : List ℕ) → Puts before from (timeText (s % 360000) k) k r after
 
-pub puts-as : {before : List ℕ} {from : ℕ} {text same rest : List ℕ} {r : ℕ} {after : List ℕ} → text ≡ same → Puts before from same rest r after → Puts before from text rest r after
-puts-as e p = rw e p
-
--- The same, where a place and a buffer are told by an equation.
+-- A place and a buffer that an equation tells.
 pub puts-at : {before : List ℕ} {from : ℕ} {text rest : List ℕ} {r s : ℕ} {after same : List ℕ} → r ≡ s → after ≡ same → Puts before from text rest s same → Puts before from text rest r after
 puts-at e f p = rw (e, f) p

@@ -1,17 +1,16 @@
 -- A time between quotes has nothing to escape.
-use mathlib.Core.Path.{_≡_, refl, sym}
+use mathlib.Core.Path.{_≡_}
 use mathlib.Core.List.{List, [], _∷_}
 use Prim.Native.Nat.{ℕ, _+_, _/_, _%_, _≤_, _<_}
 use native.Mathlib.Omega.{arith}
-use Rattle.json.proofs.Rows.{between}
 use Rattle.document.specs.Spell.{quoted}
 use Rattle.document.specs.Plain.{two, timeText}
-use Rattle.document.proofs.Sizes.{escapedRows}
+use Rattle.quoting.proofs.Chars.{escaped-itself}
 
 -- 10 is for the colon, which stands behind the digits.
 pub digit-quoted : (n : ℕ) (cs k : List ℕ) → n ≤ 10 → quoted ((48 + n) ∷ cs) k ≡ (48 + n) ∷ quoted cs k
 unfolding quoted
-digit-quoted n cs k h = sym (between 35 92 (List ℕ) (48 + n) ((48 + n) ∷ quoted cs k) (escapedRows (48 + n) (quoted cs k)) (omega arith) (omega arith) refl)
+digit-quoted n cs k h = escaped-itself (48 + n) (quoted cs k) (omega arith) (λ e. omega arith) (λ e. omega arith)
 
 pub two-quoted : (n : ℕ) (cs k : List ℕ) → n < 100 → quoted (two n cs) k ≡ two n (quoted cs k)
 two-quoted n cs k h = rw (digit-quoted (n / 10) _ k (omega arith), digit-quoted (n % 10) _ k (omega arith))

@@ -10,10 +10,10 @@ use Rattle.document.specs.Spell.{spell, firstElement}
 use Rattle.document.specs.Plain.{field, typed, daysTree}
 use Rattle.document.specs.Untable.{daysOf}
 use Rattle.words.specs.Standing.{tagAt, belowAt, aAt, bAt}
-use Rattle.printing.specs.Puts.{Puts}
+use Rattle.putting.specs.Puts.{Puts}
 use Rattle.plain.specs.Prints.{Prints, DosagePrints, ApplicationsPrint, PlainPrints, dosageOnly, times, segments, TimedPrints, plain, weekDays, daysOfMonth, interval}
-use Rattle.printing.proofs.Laid.{puts-then}
-use Rattle.plain.proofs.Pieces.{PutsBytes, PutsWhole, puts-as}
+use Rattle.putting.proofs.Laid.{puts-then, puts-as}
+use Rattle.plain.proofs.Pieces.{PutsBytes, PutsWhole}
 use Rattle.plain.proofs.TimedTexts.{times-text, segments-text, week-days-text, days-of-month-text, interval-text}
 
 -- A list of the applications below record i, and days with what is below it, behind some bytes.

@@ -12,7 +12,7 @@ use Rattle.document.specs.Untable.{daysOf}
 use Rattle.document.specs.Plain.{whole, amount, textTree, timeText, field, fieldIf, typed, daysTree}
 use Rattle.document.specs.Spell.{spell, firstElement}
 use Rattle.words.specs.Standing.{At, belowAt}
-use Rattle.printing.specs.Puts.{Puts}
+use Rattle.putting.specs.Puts.{Puts}
 
 -- The text of a tree that is P is put.
 abbrev pub Prints : (Tree → Type 0) → List ℕ → ℕ → ℕ → List ℕ → Type 0

@@ -3,6 +3,8 @@ use crate::dosage;
 use crate::record;
 use crate::timed;
 use printing;
+use putting;
+use quoting;
 ghost use mathlib.Core.Path.{_≡_};
 ghost use mathlib.Core.List.{List, _∷_, _++_};
 ghost use Prim.Native.Nat.{ℕ, _+_, _<_, _≤_};
@@ -11,7 +13,7 @@ ghost use Rattle.document.specs.Spell.{spell};
 ghost use Rattle.document.specs.Schema.{greatestInteger};
 ghost use Rattle.document.specs.Plain.{whole};
 ghost use Rattle.words.specs.Standing.{tagAt, aAt, bAt};
-ghost use Rattle.printing.specs.Puts.{Puts};
+ghost use Rattle.putting.specs.Puts.{Puts};
 ghost use Rattle.plain.specs.Prints.{Prints, Lists, DetailPrints, ObjectPrints, ObjectsPrint};
 
 fn put_daily(words: &[u64], i: usize, out: &mut [u8], from: usize) -> usize
@@ -22,7 +24,7 @@ fn put_daily(words: &[u64], i: usize, out: &mut [u8], from: usize) -> usize
     let at = dosage::put_decimal(out, at, b",", record::b(words, i));
     let at = dosage::put_decimal(out, at, b",", record::c(words, i));
     let at = dosage::put_decimal(out, at, b",", record::d(words, i));
-    printing::put_all(out, at, b"]}")
+    putting::put_all(out, at, b"]}")
 }
 
 // So many bytes of the buffer, and none where they do not lie there.
@@ -44,19 +46,19 @@ fn put_free_text(words: &[u64], i: usize, buffer: &[u8], out: &mut [u8], from: u
     requires { ⌜ i ≤ 64 ⌝ }
     ensures { λ r. ⌜ ((left : ℕ) → tagAt (now (words .entry)) i ≡ 2 → Prints (DetailPrints (now (words .entry)) (now (buffer .entry)) left i) (now (out .entry)) from r (now (out .exit))) ⌝ }
 {
-    let at = printing::put_all(out, from, b"{\"t\":2,\"text\":");
+    let at = putting::put_all(out, from, b"{\"t\":2,\"text\":");
     let text = part(buffer, record::a(words, i), record::b(words, i));
-    let at = printing::put_string(out, at, text);
-    printing::put(out, at, b'}')
+    let at = quoting::put_string(out, at, text);
+    putting::put(out, at, b'}')
 }
 
 fn put_single(words: &[u64], i: usize, out: &mut [u8], from: usize) -> usize
     requires { ⌜ i ≤ 64 ⌝ }
     ensures { λ r. ⌜ ((buffer : List ℕ) (left : ℕ) → tagAt (now (words .entry)) i ≡ 3 → Prints (DetailPrints (now (words .entry)) buffer left i) (now (out .entry)) from r (now (out .exit))) ⌝ }
 {
-    let at = printing::put_all(out, from, b"{\"t\":3,\"tdo\":");
+    let at = putting::put_all(out, from, b"{\"t\":3,\"tdo\":");
     let at = timed::put_timed(words, i + 1, out, at);
-    printing::put(out, at, b'}')
+    putting::put(out, at, b'}')
 }
 
 fn put_cyclic(words: &[u64], i: usize, out: &mut [u8], from: usize) -> usize
@@ -65,7 +67,7 @@ fn put_cyclic(words: &[u64], i: usize, out: &mut [u8], from: usize) -> usize
 {
     let at = dosage::put_integer(out, from, b"{\"t\":4,\"cyDuU\":", record::a(words, i));
     let at = dosage::put_integer(out, at, b",\"cyDu\":", record::b(words, i));
-    let at = printing::put_all(out, at, b",\"tdo\":");
+    let at = putting::put_all(out, at, b",\"tdo\":");
     let at = timed::put_timed(words, i + 1, out, at);
     printing::put_per_cycle(out, at, record::c(words, i))
 }
@@ -83,7 +85,7 @@ fn put_pause(words: &[u64], i: usize, out: &mut [u8], from: usize) -> usize
     ensures { λ r. ⌜ ((buffer : List ℕ) (left : ℕ) → tagAt (now (words .entry)) i ≡ 16 → Prints (ObjectPrints (now (words .entry)) buffer left i) (now (out .entry)) from r (now (out .exit))) ⌝ }
 {
     let at = put_span(words, i, b"{\"t\":2,\"du\":", out, from);
-    printing::put(out, at, b'}')
+    putting::put(out, at, b'}')
 }
 
 fn put_object(
@@ -102,9 +104,9 @@ fn put_object(
         return put_pause(words, i, out, from);
     }
     let at = put_span(words, i, b"{\"t\":1,\"du\":", out, from);
-    let at = printing::put_all(out, at, b",\"po\":");
+    let at = putting::put_all(out, at, b",\"po\":");
     let at = put_detail(words, i + 1, left, buffer, out, at);
-    printing::put(out, at, b'}')
+    putting::put(out, at, b'}')
 }
 
 // The objects from record i on, up to `end`, with commas between them.
@@ -123,9 +125,7 @@ fn put_objects(
     let mut r = i;
     let mut at = from;
     while r < end {
-        if r != i {
-            at = printing::put(out, at, b',');
-        }
+        at = dosage::put_comma(out, at, r != i);
         at = put_object(words, r, left, buffer, out, at);
         r = record::behind(words, r);
     }
@@ -143,13 +143,13 @@ fn put_sequence(
     requires { ⌜ i ≤ 64 ⌝ }
     ensures { λ r. ⌜ (tagAt (now (words .entry)) i ≡ 5 → Prints (DetailPrints (now (words .entry)) (now (buffer .entry)) left i) (now (out .entry)) from r (now (out .exit))) ⌝ }
 {
-    let at = printing::put_all(out, from, b"{\"t\":5,\"sos\":[");
+    let at = putting::put_all(out, from, b"{\"t\":5,\"sos\":[");
     if left == 0 {
         return at;
     }
     let end = record::behind(words, i);
     let at = put_objects(words, i + 1, end, left - 1, buffer, out, at);
-    printing::put_all(out, at, b"]}")
+    putting::put_all(out, at, b"]}")
 }
 
 // The detail of record i, in which so many sequences may still open.

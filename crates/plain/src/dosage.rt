@@ -1,6 +1,7 @@
 // Dosages and applications (document 01, "Objects"), with members in the order of its table.
 use crate::record;
 use printing;
+use putting;
 ghost use mathlib.Core.Path.{_≡_};
 ghost use mathlib.Core.List.{List, _∷_, _++_};
 ghost use mathlib.Core.Bool.{cond};
@@ -8,21 +9,21 @@ ghost use Prim.Native.Nat.{ℕ, _<_, _≤_};
 ghost use Rattle.document.specs.Spell.{spell};
 ghost use Rattle.document.specs.Plain.{whole, amount};
 ghost use Rattle.words.specs.Standing.{tagAt};
-ghost use Rattle.printing.specs.Puts.{Puts};
+ghost use Rattle.putting.specs.Puts.{Puts};
 ghost use Rattle.plain.specs.Prints.{Prints, Opens, Lists, DosagePrints, ApplicationPrints, ApplicationsPrint};
 
 // A name with what stands in front of it and its colon, and an integer.
 pub(crate) fn put_integer(out: &mut [u8], from: usize, name: &[u8], n: u64) -> usize
     ensures { λ r. ⌜ ((k : List ℕ) → n < 1000000 → Puts (now (out .entry)) from (now (name .entry) ++ spell (whole n) k) k r (now (out .exit))) ⌝ }
 {
-    let at = printing::put_all(out, from, name);
+    let at = putting::put_all(out, from, name);
     printing::put_whole(out, at, n)
 }
 
 pub(crate) fn put_decimal(out: &mut [u8], from: usize, name: &[u8], n: u64) -> usize
     ensures { λ r. ⌜ ((k : List ℕ) → n < 1000000000000 → Puts (now (out .entry)) from (now (name .entry) ++ spell (amount n) k) k r (now (out .exit))) ⌝ }
 {
-    let at = printing::put_all(out, from, name);
+    let at = putting::put_all(out, from, name);
     printing::put_amount(out, at, n)
 }
 
@@ -58,23 +59,23 @@ pub(crate) fn put_dosage(words: &[u64], i: usize, out: &mut [u8], from: usize) -
         13 => put_from_to(words, i, out, from),
         _ => put_range(words, i, out, from),
     };
-    printing::put(out, at, b'}')
+    putting::put(out, at, b'}')
 }
 
 fn put_application(words: &[u64], i: usize, out: &mut [u8], from: usize) -> usize
     requires { ⌜ i < 64 ⌝ }
     ensures { λ r. ⌜ Prints (ApplicationPrints (now (words .entry)) i) (now (out .entry)) from r (now (out .exit)) ⌝ }
 {
-    let at = printing::put_all(out, from, b"{\"do\":");
+    let at = putting::put_all(out, from, b"{\"do\":");
     let at = put_dosage(words, i + 1, out, at);
     let tag = record::tag(words, i);
     if tag == 17 {
-        let at = printing::put_all(out, at, b",\"dt\":\"");
+        let at = putting::put_all(out, at, b",\"dt\":\"");
         let at = printing::put_time(out, at, record::a(words, i));
-        return printing::put_all(out, at, b"\"}");
+        return putting::put_all(out, at, b"\"}");
     }
     let at = put_integer(out, at, b",\"s\":", record::a(words, i));
-    printing::put(out, at, b'}')
+    putting::put(out, at, b'}')
 }
 
 // A comma behind an earlier element.
@@ -82,7 +83,7 @@ pub(crate) fn put_comma(out: &mut [u8], at: usize, later: bool) -> usize
     ensures { λ r. ⌜ ((k : List ℕ) → Puts (now (out .entry)) at (cond later (44 ∷ k) k) k r (now (out .exit))) ⌝ }
 {
     if later {
-        return printing::put(out, at, b',');
+        return putting::put(out, at, b',');
     }
     at
 }

@@ -5,6 +5,8 @@ use document::table::Date;
 use document::table::Head;
 use document::table::Text;
 use printing;
+use putting;
+use quoting;
 ghost use mathlib.Core.Path.{_≡_};
 ghost use mathlib.Core.List.{List, [], _∷_, _++_};
 ghost use mathlib.Core.Bool.{true, cond};
@@ -14,7 +16,7 @@ ghost use Rattle.document.specs.Date.{isDate};
 ghost use Rattle.document.specs.Valid.{ifGiven};
 ghost use Rattle.document.specs.Untable.{dateOf, zoneOf, mealOf, textOf};
 ghost use Rattle.document.specs.Plain.{dayText, timeText, zoneText};
-ghost use Rattle.printing.specs.Puts.{Puts};
+ghost use Rattle.putting.specs.Puts.{Puts};
 ghost use Rattle.plain.specs.Prints.{DetailPrints};
 ghost use Rattle.plain.specs.Heads.{dateField, reserveField, mealField, textField, stringFields, frontFields, headFields, Within, Writable};
 
@@ -23,9 +25,9 @@ fn put_day(out: &mut [u8], from: usize, year: u16, month: u8, day: u8) -> usize
 {
     let at = printing::put_two(out, from, year as u64 / 100);
     let at = printing::put_two(out, at, year as u64 % 100);
-    let at = printing::put(out, at, b'-');
+    let at = putting::put(out, at, b'-');
     let at = printing::put_two(out, at, month as u64);
-    let at = printing::put(out, at, b'-');
+    let at = putting::put(out, at, b'-');
     printing::put_two(out, at, day as u64)
 }
 
@@ -42,9 +44,9 @@ fn sign(west: bool) -> u8
 fn put_moment(out: &mut [u8], from: usize, second: u32, west: bool, zone: u16) -> usize
     ensures { λ r. ⌜ ((k : List ℕ) → second ≤ 86399 → zone ≤ 840 → Puts (now (out .entry)) from (84 ∷ timeText second (zoneText (zoneOf west zone) ++ k)) k r (now (out .exit))) ⌝ }
 {
-    let at = printing::put(out, from, b'T');
+    let at = putting::put(out, from, b'T');
     let at = printing::put_time(out, at, second as u64);
-    let at = printing::put(out, at, sign(west));
+    let at = putting::put(out, at, sign(west));
     printing::put_clock(out, at, zone as u64)
 }
 
@@ -55,9 +57,9 @@ fn put_date(out: &mut [u8], from: usize, name: &[u8], d: Date) -> usize
     match d {
         Date::Absent => from,
         Date::Bare { year, month, day } => {
-            let at = printing::put_all(out, from, name);
+            let at = putting::put_all(out, from, name);
             let at = put_day(out, at, year, month, day);
-            printing::put_all(out, at, b"\",")
+            putting::put_all(out, at, b"\",")
         }
         Date::Moment {
             year,
@@ -67,10 +69,10 @@ fn put_date(out: &mut [u8], from: usize, name: &[u8], d: Date) -> usize
             west,
             zone,
         } => {
-            let at = printing::put_all(out, from, name);
+            let at = putting::put_all(out, from, name);
             let at = put_day(out, at, year, month, day);
             let at = put_moment(out, at, second, west, zone);
-            printing::put_all(out, at, b"\",")
+            putting::put_all(out, at, b"\",")
         }
     }
 }
@@ -79,7 +81,7 @@ fn put_reserve(out: &mut [u8], from: usize, reserve: bool) -> usize
     ensures { λ r. ⌜ ((k : List ℕ) → Puts (now (out .entry)) from (reserveField reserve k) k r (now (out .exit))) ⌝ }
 {
     if reserve {
-        return printing::put_all(out, from, b"\"inRes\":true,");
+        return putting::put_all(out, from, b"\"inRes\":true,");
     }
     from
 }
@@ -100,9 +102,9 @@ fn put_text(out: &mut [u8], from: usize, name: &[u8], buffer: &[u8], t: Text) ->
     if t.len == 0 {
         return from;
     }
-    let at = printing::put_all(out, from, name);
+    let at = putting::put_all(out, from, name);
     let text = detail::part(buffer, t.start as u64, t.len as u64);
-    printing::put_string(out, at, text)
+    quoting::put_string(out, at, text)
 }
 
 fn put_strings(out: &mut [u8], from: usize, buffer: &[u8], h: Head) -> usize
@@ -121,13 +123,13 @@ fn put_strings(out: &mut [u8], from: usize, buffer: &[u8], h: Head) -> usize
 fn put_front(out: &mut [u8], h: Head) -> usize
     ensures { λ r. ⌜ ((k : List ℕ) → ifGiven isDate (dateOf (h .from)) ≡ true → ifGiven isDate (dateOf (h .to)) ≡ true → Puts (now (out .entry)) 0 (frontFields h k) k r (now (out .exit))) ⌝ }
 {
-    let at = printing::put(out, 0, b'{');
+    let at = putting::put(out, 0, b'{');
     let from = h.from;
     let at = put_date(out, at, b"\"dtFrom\":\"", from);
     let to = h.to;
     let at = put_date(out, at, b"\"dtTo\":\"", to);
     let at = put_reserve(out, at, h.reserve);
-    printing::put_all(out, at, b"\"po\":")
+    putting::put_all(out, at, b"\"po\":")
 }
 
 // "at most 3 sequences inside one another"
@@ -141,5 +143,5 @@ pub fn put_posology(out: &mut [u8], h: Head, words: &[u64], buffer: &[u8]) -> us
     let at = detail::put_detail(words, 0, SEQUENCES, buffer, out, at);
     let at = put_meal(out, at, h.meal);
     let at = put_strings(out, at, buffer, h);
-    printing::put(out, at, b'}')
+    putting::put(out, at, b'}')
 }

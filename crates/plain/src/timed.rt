@@ -2,6 +2,7 @@
 use crate::dosage;
 use crate::record;
 use printing;
+use putting;
 ghost use mathlib.Core.Path.{_≡_};
 ghost use mathlib.Core.List.{List, _∷_, _++_};
 ghost use Prim.Native.Nat.{ℕ, _+_, _<_, _≤_};
@@ -10,7 +11,7 @@ ghost use Rattle.document.specs.Untable.{daysOf};
 ghost use Rattle.document.specs.Spell.{spell, firstElement};
 ghost use Rattle.document.specs.Plain.{typed, field, daysTree};
 ghost use Rattle.words.specs.Standing.{tagAt, belowAt, aAt};
-ghost use Rattle.printing.specs.Puts.{Puts};
+ghost use Rattle.putting.specs.Puts.{Puts};
 ghost use Rattle.plain.specs.Prints.{Prints, DosagePrints, ApplicationsPrint, PlainPrints, TimedPrints};
 
 const LAST_WEEKDAY: u64 = 7;
@@ -43,19 +44,19 @@ fn put_listed(words: &[u64], i: usize, name: &[u8], out: &mut [u8], from: usize)
     requires { ⌜ i ≤ 66 ⌝ }
     ensures { λ r. ⌜ ((ts : Elements) (k : List ℕ) → i + 1 + belowAt (now (words .entry)) i ≤ 64 → ApplicationsPrint (now (words .entry)) (i + 1 + belowAt (now (words .entry)) i) (i + 1) ts → Puts (now (out .entry)) from (now (name .entry) ++ firstElement ts (125 ∷ k)) k r (now (out .exit))) ⌝ }
 {
-    let at = printing::put_all(out, from, name);
+    let at = putting::put_all(out, from, name);
     let end = record::behind(words, i);
     let at = dosage::put_applications(words, i + 1, end, out, at);
-    printing::put_all(out, at, b"]}")
+    putting::put_all(out, at, b"]}")
 }
 
 fn put_dosage_only(words: &[u64], i: usize, out: &mut [u8], from: usize) -> usize
     requires { ⌜ i ≤ 66 ⌝ }
     ensures { λ r. ⌜ ((d : Tree) (k : List ℕ) → DosagePrints (now (words .entry)) (i + 1) d → Puts (now (out .entry)) from (spell (typed 1 (field "do" d noMember)) k) k r (now (out .exit))) ⌝ }
 {
-    let at = printing::put_all(out, from, b"{\"t\":1,\"do\":");
+    let at = putting::put_all(out, from, b"{\"t\":1,\"do\":");
     let at = dosage::put_dosage(words, i + 1, out, at);
-    printing::put(out, at, b'}')
+    putting::put(out, at, b'}')
 }
 
 // A timed dosage of type 1, 2 or 3.
@@ -83,22 +84,22 @@ fn put_under_days(
     requires { ⌜ (i ≤ 65) × (last ≤ 28) ⌝ }
     ensures { λ r. ⌜ ((t : Tree) (k : List ℕ) → i < 64 → PlainPrints (now (words .entry)) (i + 1) t → Puts (now (out .entry)) from (now (name .entry) ++ firstElement (daysTree (daysOf last 1 (aAt (now (words .entry)) i))) (44 ∷ 34 ∷ 116 ∷ 100 ∷ 111 ∷ 34 ∷ 58 ∷ spell t (125 ∷ k))) k r (now (out .exit))) ⌝ }
 {
-    let at = printing::put_all(out, from, name);
+    let at = putting::put_all(out, from, name);
     let at = put_days(record::a(words, i), last, out, at);
-    let at = printing::put_all(out, at, b"],\"tdo\":");
+    let at = putting::put_all(out, at, b"],\"tdo\":");
     let at = put_plain(words, i + 1, out, at);
-    printing::put(out, at, b'}')
+    putting::put(out, at, b'}')
 }
 
 fn put_interval(words: &[u64], i: usize, out: &mut [u8], from: usize) -> usize
     requires { ⌜ i ≤ 65 ⌝ }
     ensures { λ r. ⌜ (tagAt (now (words .entry)) i ≡ 11 → Prints (TimedPrints (now (words .entry)) i) (now (out .entry)) from r (now (out .exit))) ⌝ }
 {
-    let at = printing::put_all(out, from, b"{\"t\":6,\"do\":");
+    let at = putting::put_all(out, from, b"{\"t\":6,\"do\":");
     let at = dosage::put_dosage(words, i + 1, out, at);
     let at = dosage::put_integer(out, at, b",\"miDu\":", record::a(words, i));
     let at = dosage::put_integer(out, at, b",\"miDuU\":", record::b(words, i));
-    printing::put(out, at, b'}')
+    putting::put(out, at, b'}')
 }
 
 pub(crate) fn put_timed(words: &[u64], i: usize, out: &mut [u8], from: usize) -> usize

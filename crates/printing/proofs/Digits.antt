@@ -12,19 +12,19 @@ use Rattle.document.specs.Plain.{wholeDigits, fractionDigits, pointed, whole, a
 use Rattle.printing.specs.Tens.{tens}
 
 -- ---- hh:mm:ss
-pub two-digits : {d e : ℕ} (n : ℕ) (k : List ℕ) → d ≡ 48 + n / 10 % 10 → e ≡ 48 + n % 10 → d ∷ e ∷ k ≡ two (n % 100) k
+pub two-digits : {d e : ℕ} (n : ℕ) (k : List ℕ) → d ≡ 48 + n / 10 % 10 → e ≡ 48 + n % 10 → two (n % 100) k ≡ d ∷ e ∷ k
 two-digits {d} {e} n k p q =
     let a : d ≡ 48 + n % 100 / 10 = omega arith in
     let b : e ≡ 48 + n % 100 % 10 = omega arith in
     rw (a, b)
 
-pub clock-twos : (n : ℕ) (k : List ℕ) → two (n / 60 % 100) (58 ∷ two (n % 60 % 100) k) ≡ clock (n % 6000) k
+pub clock-twos : (n : ℕ) (k : List ℕ) → clock (n % 6000) k ≡ two (n / 60 % 100) (58 ∷ two (n % 60 % 100) k)
 clock-twos n k =
     let a : n / 60 % 100 ≡ n % 6000 / 60 = omega arith in
     let b : n % 60 % 100 ≡ n % 6000 % 60 = omega arith in
     rw (a, b)
 
-pub time-parts : (n : ℕ) (k : List ℕ) → clock (n / 60 % 6000) (58 ∷ two (n % 60 % 100) k) ≡ timeText (n % 360000) k
+pub time-parts : (n : ℕ) (k : List ℕ) → timeText (n % 360000) k ≡ clock (n / 60 % 6000) (58 ∷ two (n % 60 % 100) k)
 time-parts n k =
     let a : n / 60 % 6000 ≡ n % 360000 / 60 = omega arith in
     let b : n % 60 % 100 ≡ n % 360000 % 60 = omega arith in
@@ -75,20 +75,20 @@ digits-append (suc f) n k l = go (leb n 9) (digits-append f (n / 10) ((48 + n % 
     go false e = e
 
 pub whole-tens : {d : ℕ} (n : ℕ) (k : List ℕ) → n < 1000000 → d ≡ 48 + n % 10
-    → tens (n / 10000) (tens (n / 1000) (tens (n / 100) (tens (n / 10) (tens n (d ∷ k))))) ≡ spell (whole n) k
+    → spell (whole n) k ≡ tens (n / 10000) (tens (n / 1000) (tens (n / 100) (tens (n / 10) (tens n (d ∷ k)))))
 unfolding spell
-whole-tens n k h e = rw (e, digits-append 5 n [] k) (sym (six-digits n k h))
+whole-tens n k h e = rw (e, digits-append 5 n [] k) (six-digits n k h)
 
 -- ---- decimals
-spell-amount : (m : ℕ) (k : List ℕ) → spell (whole (m / 1000000 % 1000000)) (pointed (m % 1000000) ++ k) ≡ spell (amount (m % 1000000000000)) k
+spell-amount : (m : ℕ) (k : List ℕ) → spell (amount (m % 1000000000000)) k ≡ spell (whole (m / 1000000 % 1000000)) (pointed (m % 1000000) ++ k)
 unfolding spell
 spell-amount m k =
     let a : m % 1000000000000 / 1000000 ≡ m / 1000000 % 1000000 = omega arith in
     let b : m % 1000000000000 % 1000000 ≡ m % 1000000 = omega arith in
-    rw (a, b) (digits-append 5 (m / 1000000 % 1000000) [] (pointed (m % 1000000) ++ k) ∙ sym (digits-append 5 (m / 1000000 % 1000000) (pointed (m % 1000000)) k))
+    rw (a, b) (digits-append 5 (m / 1000000 % 1000000) (pointed (m % 1000000)) k ∙ sym (digits-append 5 (m / 1000000 % 1000000) [] (pointed (m % 1000000) ++ k)))
 
-pub amount-bare : (m : ℕ) (k : List ℕ) → m % 1000000 ≡ 0 → spell (whole (m / 1000000 % 1000000)) k ≡ spell (amount (m % 1000000000000)) k
+pub amount-bare : (m : ℕ) (k : List ℕ) → m % 1000000 ≡ 0 → spell (amount (m % 1000000000000)) k ≡ spell (whole (m / 1000000 % 1000000)) k
 amount-bare m k e = rw (eq-eqb (m % 1000000) 0 e) at (spell-amount m k)
 
-pub amount-pointed : (m : ℕ) (k : List ℕ) → (m % 1000000 ≡ 0 → ⊥) → spell (whole (m / 1000000 % 1000000)) (46 ∷ fractionDigits 6 100000 (m % 1000000) ++ k) ≡ spell (amount (m % 1000000000000)) k
+pub amount-pointed : (m : ℕ) (k : List ℕ) → (m % 1000000 ≡ 0 → ⊥) → spell (amount (m % 1000000000000)) k ≡ spell (whole (m / 1000000 % 1000000)) (46 ∷ fractionDigits 6 100000 (m % 1000000) ++ k)
 amount-pointed m k e = rw (ne-eqb (m % 1000000) 0 e) at (spell-amount m k)

@@ -7,8 +7,8 @@ use borrow.Author.Tests.{ne-eqb}
 use lib.ListN.{length}
 use Rattle.document.specs.Plain.{fractionDigits}
 use Rattle.document.proofs.Written.{Falls, falls}
-use Rattle.printing.specs.Puts.{Puts}
-use Rattle.printing.proofs.Laid.{puts-none, puts-then}
+use Rattle.putting.specs.Puts.{Puts}
+use Rattle.putting.proofs.Laid.{puts-none, puts-then}
 
 -- So many scales are left, each a tenth of the one before.
 abbrev Scales : ℕ → ℕ → Type 0

@@ -1,6 +1,4 @@
 -- What the proofs of several functions use.
-pub mod Laid
-pub mod Digits
-pub mod Fractions
-pub mod Chars
+mod Digits
+mod Fractions
 mod Cycles

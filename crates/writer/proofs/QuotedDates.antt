@@ -1,20 +1,19 @@
 -- A date between quotes: none of its bytes is escaped.
-use mathlib.Core.Path.{_≡_, refl, ap, sym, _∙_}
+use mathlib.Core.Path.{_≡_, refl, ap, _∙_}
 use mathlib.Core.List.{List, [], _∷_, _++_}
 use mathlib.Core.Bool.{Bool, true, false}
 use Prim.Native.Nat.{ℕ, _+_, _/_, _%_, _≤_, _<_}
 use native.Mathlib.Omega.{arith}
-use Rattle.json.proofs.Rows.{between}
 use Rattle.document.specs.Posology as P
 use Rattle.document.specs.Date.{isDate}
 use Rattle.document.specs.Valid.{ifGiven}
 use Rattle.document.specs.Untable.{dateOf, zoneOf}
-use Rattle.document.specs.Spell.{escaped, quoted}
+use Rattle.document.specs.Spell.{quoted}
 use Rattle.document.specs.Plain.{two, clock, timeText, dayText, zoneText, dateText}
 use Rattle.document.specs.declared.table.Date.{Date}
 use Rattle.document.specs.declared.table.Date.the-variants.{Absent, Bare, Moment}
 use Rattle.document.proofs.RealDates.{Holds}
-use Rattle.document.proofs.Sizes.{escapedRows}
+use Rattle.quoting.proofs.Chars.{escaped-itself}
 use Rattle.plain.proofs.HeadParts.{Small, day-small, moment-small}
 
 -- Between the quote and the backslash.
@@ -22,14 +21,10 @@ pub data Unescaped : List ℕ → Type 0 where
   none : Unescaped []
   more : (b : ℕ) {bs : List ℕ} → 35 ≤ b → b < 92 → Unescaped bs → Unescaped (b ∷ bs)
 
-escaped-itself : (b : ℕ) (k : List ℕ) → 35 ≤ b → b < 92 → escaped b k ≡ b ∷ k
-unfolding escaped
-escaped-itself b k l h = sym (between 35 92 (List ℕ) b (b ∷ k) (escapedRows b k) l h refl)
-
 pub quoted-itself : {cs : List ℕ} (k : List ℕ) → Unescaped cs → quoted cs k ≡ cs ++ (34 ∷ k)
 unfolding quoted
 quoted-itself k none = refl
-quoted-itself k (more b {bs = bs} l h u) = escaped-itself b (quoted bs k) l h ∙ ap (λ (s : List ℕ). b ∷ s) (quoted-itself k u)
+quoted-itself k (more b {bs = bs} l h u) = escaped-itself b (quoted bs k) (omega arith) (λ e. omega arith) (λ e. omega arith) ∙ ap (λ (s : List ℕ). b ∷ s) (quoted-itself k u)
 
 two-unescaped : (n : ℕ) {k : List ℕ} → n ≤ 99 → Unescaped k → Unescaped (two n k)
 two-unescaped n h u = more (48 + n / 10) (omega arith) (omega arith) (more (48 + n % 10) (omega arith) (omega arith) u)

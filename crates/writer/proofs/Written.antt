@@ -26,7 +26,7 @@ use Rattle.checking.specs.Readable.{PieceAt, absent, present}
 use Rattle.checking.proofs.Read.{readable-laid}
 use Rattle.checking.proofs.HeadValues.{valid-parts}
 use Rattle.checking.proofs.Stands.{readable-stands}
-use Rattle.printing.specs.Puts.{greatestPlace, upTo, Puts}
+use Rattle.putting.specs.Puts.{greatestPlace, upTo, Puts}
 use Rattle.plain.specs.Prints.{DetailPrints}
 use Rattle.plain.specs.Heads.{headFields, Within, Writable}
 use Rattle.writer.specs.Fits.{Fits}

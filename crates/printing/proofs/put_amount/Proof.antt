@@ -1,4 +1,4 @@
-use Rattle.printing.proofs.Laid.{puts-then, puts-as}
+use Rattle.putting.proofs.Laid.{puts-then, puts-as}
 use Rattle.printing.proofs.Digits.{amount-bare, amount-pointed}
 use borrow.Author.Needs.{needs}
 use Rattle.printing.proofs.put_amount.Statement.{statement}

@@ -1,6 +1,6 @@
 use Rattle.printing.specs.Tens.{tens}
 use borrow.Author.Tests.{le-leb, lt-leb}
-use Rattle.printing.proofs.Laid.{puts-none}
+use Rattle.putting.proofs.Laid.{puts-none}
 use borrow.Author.Needs.{needs}
 use Rattle.printing.proofs.put_tens.Statement.{statement}
 use Rattle.printing.proofs.put_tens.Tie as tie

@@ -1,5 +1,5 @@
 use native.Mathlib.Omega.{arith}
-use Rattle.printing.proofs.Laid.{puts-then, puts-as}
+use Rattle.putting.proofs.Laid.{puts-then, puts-as}
 use Rattle.printing.proofs.Digits.{whole-tens}
 use borrow.Author.Needs.{needs}
 use Rattle.printing.proofs.put_whole.Statement.{statement}

@@ -1,12 +1,11 @@
 -- Details and sequences, which call one another: the sequences still allowed fall from a sequence to those inside it, and each other call falls by one.
 -- The objects of a sequence are put in turn (`Reaches`).
-use mathlib.Core.Logic.{⊎-elim}
 use mathlib.Core.Path.{sym, _∙_}
 use Prim.Native.Nat.{ℕ, _+_, _-_, _*_, _<_}
 use native.Mathlib.Omega.{arith}
 use borrow.Author.Needs.{needs}
 use Rattle.plain.proofs.Details.{prints-sequence, prints-posology, detail-inside, detail-last, detail-opens}
-use Rattle.plain.proofs.Objects.{Reaches, reaches-none, reaches-more, parted-first, parted-more, lists-reached}
+use Rattle.plain.proofs.Objects.{Reaches, reaches-none, reaches-more, lists-reached}
 use borrow.Fn.Kinds.{In}
 use borrow.Fn.PlainCycle.{Measures, is, falls, and}
 use Rattle.plain.proofs.detail.put_detail.Reads as put-detail
@@ -27,8 +26,9 @@ use Rattle.plain.proofs.detail.put_free_text.Reads as put-free-text-rea
 use Rattle.plain.proofs.detail.put_pause.Reads as put-pause-reads
 use Rattle.plain.proofs.detail.put_single.Reads as put-single-reads
 use Rattle.plain.proofs.detail.put_span.Reads as put-span-reads
-use Rattle.printing.proofs.put.Reads as put-reads
-use Rattle.printing.proofs.put_all.Reads as put-all-reads
+use Rattle.plain.proofs.dosage.put_comma.Reads as put-comma-reads
+use Rattle.putting.proofs.put.Reads as put-reads
+use Rattle.putting.proofs.put_all.Reads as put-all-reads
 use Rattle.plain.proofs.record.behind.Reads as behind-reads
 use Rattle.plain.proofs.record.tag.Reads as tag-reads
 use Rattle.plain.proofs.detail.+put_detail+put_object+put_objects+put_sequence.{statement}
@@ -89,7 +89,7 @@ abbrev put-object-claims : ℕ → put-object-lts.Claims
 put-object-claims t = (tag-reads.Asked, tag-reads.Learnt, put-pause-reads.Asked, put-pause-reads.Learnt, put-span-reads.Asked, put-span-reads.Learnt, put-all-reads.Asked, put-all-reads.Learnt, put-detail-below t, put-detail.Post, put-reads.Asked, put-reads.Learnt)
 
 abbrev put-objects-claims : ℕ → put-objects-lts.Claims
-put-objects-claims t = (put-reads.Asked, put-reads.Learnt, put-object-below t, put-object.Post, behind-reads.Asked, behind-reads.Learnt)
+put-objects-claims t = (put-comma-reads.Asked, put-comma-reads.Learnt, put-object-below t, put-object.Post, behind-reads.Asked, behind-reads.Learnt)
 
 abbrev put-sequence-claims : ℕ → put-sequence-lts.Claims
 put-sequence-claims t = (put-all-reads.Asked, put-all-reads.Learnt, behind-reads.Asked, behind-reads.Learnt, put-objects-below t, put-objects.Post)
@@ -190,8 +190,8 @@ put-objects-μ-loop words i end left buffer out₀ from r₀ at₀ out r at = en
 put-objects-loop-holds : (t : ℕ) → put-objects-lts.Need-loop-holds (put-objects-claims t) (put-objects-at t) put-objects.Post put-objects-Inv-loop put-objects-μ-loop
 put-objects-loop-holds t c = reaches-none
 
-put-objects-put-requires : (t : ℕ) → put-objects-lts.Need-put-requires (put-objects-claims t) (put-objects-at t) put-objects.Post put-objects-Inv-loop put-objects-μ-loop
-put-objects-put-requires t c κs = search needs
+put-objects-put-comma-requires : (t : ℕ) → put-objects-lts.Need-put-comma-requires (put-objects-claims t) (put-objects-at t) put-objects.Post put-objects-Inv-loop put-objects-μ-loop
+put-objects-put-comma-requires t c κs = search needs
 
 put-objects-put-object-requires : (t : ℕ) → put-objects-lts.Need-put-object-requires (put-objects-claims t) (put-objects-at t) put-objects.Post put-objects-Inv-loop put-objects-μ-loop
 put-objects-put-object-requires t c κs = search needs
@@ -200,16 +200,17 @@ put-objects-behind-requires : (t : ℕ) → put-objects-lts.Need-behind-requires
 put-objects-behind-requires t c κs = search needs
 
 put-objects-loop-less : (t : ℕ) → put-objects-lts.Need-loop-less (put-objects-claims t) (put-objects-at t) put-objects.Post put-objects-Inv-loop put-objects-μ-loop
-put-objects-loop-less t c = omega (arith, c .behind .ensures .1 .0 (omega (arith, c .before .before .before .before .before .before .before .before .before .before .before .pre .1)))
+put-objects-loop-less t c = omega (arith, c .behind .ensures .1 .0 (omega (arith, c .before .before .before .before .before .before .before .before .before .before .before .before .before .before .pre .1)))
 
 put-objects-loop-again : (t : ℕ) → put-objects-lts.Need-loop-again (put-objects-claims t) (put-objects-at t) put-objects.Post put-objects-Inv-loop put-objects-μ-loop
 put-objects-loop-again t c =
-    let j = c .before .before .before .before .before in
-    let l = j .before .before in
+    let object = c .before .before .before in
+    let out = object .before .before .before in
+    let comma = out .before in
+    let l = comma .before .before .before in
     let a = l .before .before .before .before in
-    reaches-more (l .loop .inv)
-    (⊎-elim (λ w. parted-more (w .0 .taken) (w .2 .ensures) (w .3 .given) (w .5) (w .6)) (λ w. parted-first (omega (arith, w .0 .left)) (w .1) (w .2)) (j .if1 .came))
-    (c .before .before .before .put-object .ensures) (c .before .before .out2 .given) (a .pre .1) (j .before .loop-test .taken) (c .behind .ensures .1 .0 (omega (arith, a .pre .1))) (c .behind .ensures .1 .1)
+    reaches-more (l .loop .inv) (comma .put-comma .ensures) (out .out .given) (object .put-object .ensures) (c .before .before .out2 .given) (a .pre .1)
+    (comma .before .before .loop-test .taken) (c .behind .ensures .1 .0 (omega (arith, a .pre .1))) (c .behind .ensures .1 .1)
 
 put-objects-same-length : (t : ℕ) → put-objects-lts.Need-same-length (put-objects-claims t) (put-objects-at t) put-objects.Post put-objects-Inv-loop put-objects-μ-loop
 put-objects-same-length t c = search needs
@@ -296,7 +297,7 @@ pub +put-detail+put-object+put-objects+put-sequence-spec : {M : Type 1} → stat
     put-objects-Inv-loop
     put-objects-μ-loop
     (put-objects-loop-holds t)
-    (put-objects-put-requires t)
+    (put-objects-put-comma-requires t)
     (put-objects-put-object-requires t)
     (put-objects-behind-requires t)
     (put-objects-loop-less t)

@@ -1,5 +1,5 @@
 use borrow.Author.Needs.{needs}
-use Rattle.printing.proofs.Laid.{puts-none}
+use Rattle.putting.proofs.Laid.{puts-none}
 use Rattle.plain.proofs.dosage.put_comma.Statement.{statement}
 use Rattle.plain.proofs.dosage.put_comma.Tie as tie
 

@@ -4,7 +4,7 @@ use Prim.Native.Nat.{_%_}
 use native.Mathlib.Omega.{arith}
 use Rattle.document.specs.Spell.{spell}
 use Rattle.document.specs.Plain.{whole}
-use Rattle.printing.proofs.Laid.{puts-then}
+use Rattle.putting.proofs.Laid.{puts-then}
 use Rattle.plain.proofs.dosage.put_integer.Statement.{statement}
 use Rattle.plain.proofs.dosage.put_integer.Tie as tie
 

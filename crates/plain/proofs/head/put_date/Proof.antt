@@ -1,5 +1,5 @@
 use Rattle.plain.proofs.HeadParts.{day-small, moment-small}
-use Rattle.printing.proofs.Laid.{puts-none, puts-then}
+use Rattle.putting.proofs.Laid.{puts-none, puts-then}
 use borrow.Author.Needs.{needs}
 use Rattle.plain.proofs.head.put_date.Statement.{statement}
 use Rattle.plain.proofs.head.put_date.Tie as tie

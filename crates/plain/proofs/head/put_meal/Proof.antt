@@ -1,6 +1,6 @@
 use native.Mathlib.Omega.{arith}
 use borrow.Author.Tests.{eq-eqb, ne-eqb}
-use Rattle.printing.proofs.Laid.{puts-none}
+use Rattle.putting.proofs.Laid.{puts-none}
 use borrow.Author.Needs.{needs}
 use Rattle.plain.proofs.head.put_meal.Statement.{statement}
 use Rattle.plain.proofs.head.put_meal.Tie as tie

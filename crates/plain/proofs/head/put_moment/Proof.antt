@@ -1,4 +1,4 @@
-use Rattle.printing.proofs.Laid.{puts-then, puts-as}
+use Rattle.putting.proofs.Laid.{puts-then, puts-as}
 use Rattle.plain.proofs.HeadParts.{moment-parts}
 use borrow.Author.Needs.{needs}
 use Rattle.plain.proofs.head.put_moment.Statement.{statement}

@@ -1,5 +1,5 @@
 use mathlib.Core.List.{[]}
-use Rattle.printing.proofs.Laid.{puts-then}
+use Rattle.putting.proofs.Laid.{puts-then}
 use borrow.Author.Needs.{needs}
 use Rattle.plain.proofs.head.put_posology.Statement.{statement}
 use Rattle.plain.proofs.head.put_posology.Tie as tie

@@ -1,4 +1,4 @@
-use Rattle.printing.proofs.Laid.{puts-none}
+use Rattle.putting.proofs.Laid.{puts-none}
 use borrow.Author.Needs.{needs}
 use Rattle.plain.proofs.head.put_reserve.Statement.{statement}
 use Rattle.plain.proofs.head.put_reserve.Tie as tie

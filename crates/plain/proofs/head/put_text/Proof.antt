@@ -1,5 +1,5 @@
 use borrow.Author.Tests.{eq-eqb, ne-eqb}
-use Rattle.printing.proofs.Laid.{puts-none, puts-then}
+use Rattle.putting.proofs.Laid.{puts-none, puts-then}
 use borrow.Author.Needs.{needs}
 use Rattle.plain.proofs.head.put_text.Statement.{statement}
 use Rattle.plain.proofs.head.put_text.Tie as tie

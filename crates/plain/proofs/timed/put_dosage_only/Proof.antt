@@ -1,6 +1,5 @@
 use borrow.Author.Needs.{needs}
-use Rattle.printing.proofs.Laid.{puts-then}
-use Rattle.plain.proofs.Pieces.{puts-as}
+use Rattle.putting.proofs.Laid.{puts-then, puts-as}
 use Rattle.plain.proofs.TimedTexts.{dosage-only-text}
 use Rattle.plain.proofs.timed.put_dosage_only.Statement.{statement}
 use Rattle.plain.proofs.timed.put_dosage_only.Tie as tie

@@ -1,6 +1,6 @@
 use borrow.Author.Needs.{needs}
 use mathlib.Core.List.{_∷_}
-use Rattle.printing.proofs.Laid.{puts-then}
+use Rattle.putting.proofs.Laid.{puts-then}
 use Rattle.plain.proofs.timed.put_listed.Statement.{statement}
 use Rattle.plain.proofs.timed.put_listed.Tie as tie
 

@@ -2,7 +2,7 @@ use borrow.Author.Needs.{needs}
 use mathlib.Core.List.{_∷_, _++_}
 use Rattle.document.specs.Bytes.{bytes}
 use Rattle.document.specs.Spell.{spell}
-use Rattle.printing.proofs.Laid.{puts-then}
+use Rattle.putting.proofs.Laid.{puts-then}
 use Rattle.plain.proofs.timed.put_under_days.Statement.{statement}
 use Rattle.plain.proofs.timed.put_under_days.Tie as tie
 

@@ -1,7 +1,7 @@
-use Rattle.printing.proofs.Laid.{puts-then}
+use Rattle.putting.proofs.Laid.{puts-then}
 use borrow.Author.Needs.{needs}
-use Rattle.printing.proofs.put_control.Statement.{statement}
-use Rattle.printing.proofs.put_control.Tie as tie
+use Rattle.quoting.proofs.put_control.Statement.{statement}
+use Rattle.quoting.proofs.put_control.Tie as tie
 
 slice-aggregate-put-all : tie.Need-slice-aggregate-put-all
 slice-aggregate-put-all c = search needs

@@ -1,7 +1,7 @@
-use Rattle.printing.proofs.Laid.{puts-then}
+use Rattle.putting.proofs.Laid.{puts-then}
 use borrow.Author.Needs.{needs}
-use Rattle.printing.proofs.put_escape.Statement.{statement}
-use Rattle.printing.proofs.put_escape.Tie as tie
+use Rattle.quoting.proofs.put_escape.Statement.{statement}
+use Rattle.quoting.proofs.put_escape.Tie as tie
 
 put-requires : tie.Need-put-requires
 put-requires c κs = search needs

@@ -1,10 +1,10 @@
-use Rattle.printing.proofs.Laid.{puts-as}
+use Rattle.putting.proofs.Laid.{puts-as}
 use Rattle.json.specs.Rows.{look}
 use Rattle.document.specs.Spell.{escaped}
-use Rattle.printing.proofs.Chars.{escaped-control, escaped-itself}
+use Rattle.quoting.proofs.Chars.{escaped-control, escaped-itself}
 use borrow.Author.Needs.{needs}
-use Rattle.printing.proofs.put_char.Statement.{statement}
-use Rattle.printing.proofs.put_char.Tie as tie
+use Rattle.quoting.proofs.put_char.Statement.{statement}
+use Rattle.quoting.proofs.put_char.Tie as tie
 
 put-escape-requires : tie.Need-put-escape-requires
 put-escape-requires c κs = search needs

@@ -4,11 +4,11 @@ use native.Mathlib.Omega.{arith}
 use lib.ListN.{set, length, length-set}
 use lib.Seq.{set-out}
 use borrow.Author.Needs.{needs}
-use Rattle.printing.proofs.Laid.{puts-byte}
-use Rattle.printing.proofs.put.Statement.{statement}
-use Rattle.printing.proofs.put.Tie as tie
-use Rattle.printing.proofs.put.Reads as reads
-use Rattle.printing.proofs.put.Lts as lts
+use Rattle.putting.proofs.Laid.{puts-byte}
+use Rattle.putting.proofs.put.Statement.{statement}
+use Rattle.putting.proofs.put.Tie as tie
+use Rattle.putting.proofs.put.Reads as reads
+use Rattle.putting.proofs.put.Lts as lts
 
 -- A byte beyond the buffer changes nothing.
 stored : (c : lts.Joined1 reads.Pre reads.Post) → c .if1 .out ≡ set (c .before .args .out .now) (c .before .args .at) (c .before .args .b)

@@ -8,7 +8,7 @@ use borrow.Author.Tests.{leb-true, leb-false}
 use lib.Dec.{leb}
 use lib.ListN.{length, set, length-set, length-append}
 use lib.Seq.{sets, length-sets, set-out}
-use Rattle.printing.specs.Puts.{greatestPlace, upTo, Puts}
+use Rattle.putting.specs.Puts.{greatestPlace, upTo, Puts}
 
 pub up-to : (n : ℕ) → upTo n ≡ min n greatestPlace
 up-to n = go (leb n greatestPlace) refl
@@ -59,8 +59,8 @@ puts-then {before} {from} {text} {mid} {rest} {r} {s} {between} {after} p q =
     }
 
 -- The same text, said in another way.
-pub puts-as : {before : List ℕ} {from : ℕ} {text other rest : List ℕ} {r : ℕ} {after : List ℕ} → text ≡ other → Puts before from text rest r after → Puts before from other rest r after
-puts-as e p = record { bytes = p .bytes; in-front = sym e ∙ p .in-front; place = p .place; laid = p .laid }
+pub puts-as : {before : List ℕ} {from : ℕ} {text other rest : List ℕ} {r : ℕ} {after : List ℕ} → text ≡ other → Puts before from other rest r after → Puts before from text rest r after
+puts-as e p = record { bytes = p .bytes; in-front = e ∙ p .in-front; place = p .place; laid = p .laid }
 
 -- Two answers that are allowed are the same.
 pub puts-one : {before : List ℕ} {from : ℕ} {text rest : List ℕ} {r s : ℕ} {after other : List ℕ} → from ≤ greatestPlace → length before ≤ greatestPlace → Puts before from text rest r after → Puts before from text rest s other → (r ≡ s) × (after ≡ other)

@@ -2,13 +2,13 @@ use mathlib.Core.Path.{_≡_, refl}
 use mathlib.Core.List.{List, _++_}
 use Prim.Native.Nat.{ℕ, _-_, _≤_}
 use native.Mathlib.Omega.{arith}
-use lib.ListN.{length, drop}
+use lib.ListN.{length, drop, drop-of-length-le}
 use borrow.Author.Needs.{needs}
-use Rattle.printing.specs.Puts.{Puts}
-use Rattle.printing.proofs.Laid.{puts-none, puts-then}
-use Rattle.printing.proofs.Chars.{one-more, none-more}
-use Rattle.printing.proofs.put_all.Statement.{statement}
-use Rattle.printing.proofs.put_all.Tie as tie
+use Rattle.json.proofs.Moves.{byte-here}
+use Rattle.putting.specs.Puts.{Puts}
+use Rattle.putting.proofs.Laid.{puts-none, puts-then}
+use Rattle.putting.proofs.put_all.Statement.{statement}
+use Rattle.putting.proofs.put_all.Tie as tie
 
 abbrev Inv-loop : tie.InvT-loop
 Inv-loop out₀ from bytes at₀ i₀ out at i = (i ≤ length bytes) × (length out ≡ length out₀) × ((k : List ℕ) → Puts out₀ from (bytes ++ k) (drop i bytes ++ k) at out)
@@ -35,13 +35,13 @@ loop-again : tie.Need-loop-again Inv-loop μ-loop
 loop-again c =
     let put = c .before .before .put in
     let l = c .before .before .before .before .before in
-    (search needs, search needs, λ k. puts-then (rw (one-more _ _ (l .loop-test .taken)) at (l .before .loop .inv .2 k)) (put .ensures _))
+    (search needs, search needs, λ k. puts-then (rw (byte-here _ _ (l .loop-test .taken)) at (l .before .loop .inv .2 k)) (put .ensures _))
 
 same-length : tie.Need-same-length Inv-loop μ-loop
 same-length c = search needs
 
 returns : tie.Need-returns Inv-loop μ-loop
-returns c k = rw (none-more _ _ (c .loop-test .left)) at (c .before .loop .inv .2 k)
+returns c k = rw (drop-of-length-le _ (c .loop-test .left)) at (c .before .loop .inv .2 k)
 
 pub put-all-spec : {M : Type 1} → statement M
 put-all-spec =

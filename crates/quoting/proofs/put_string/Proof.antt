@@ -5,11 +5,11 @@ use native.Mathlib.Omega.{arith}
 use lib.ListN.{length, drop}
 use borrow.Author.Needs.{needs}
 use Rattle.document.specs.Spell.{quoted}
-use Rattle.printing.specs.Puts.{Puts}
-use Rattle.printing.proofs.Laid.{puts-none, puts-then, puts-as}
-use Rattle.printing.proofs.Chars.{quoted-one, quoted-none, spell-text}
-use Rattle.printing.proofs.put_string.Statement.{statement}
-use Rattle.printing.proofs.put_string.Tie as tie
+use Rattle.putting.specs.Puts.{Puts}
+use Rattle.putting.proofs.Laid.{puts-none, puts-then, puts-as}
+use Rattle.quoting.proofs.Chars.{quoted-one, quoted-none, spell-text}
+use Rattle.quoting.proofs.put_string.Statement.{statement}
+use Rattle.quoting.proofs.put_string.Tie as tie
 
 abbrev Inv-loop : tie.InvT-loop
 Inv-loop out₀ from bytes at₀ i₀ out at i = (i ≤ length bytes) × (length out ≡ length out₀) × ((k : List ℕ) → Puts out₀ at₀ (quoted bytes k) (quoted (drop i bytes) k) at out)

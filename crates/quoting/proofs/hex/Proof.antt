@@ -1,7 +1,7 @@
 use Rattle.json.proofs.Rows.{rows}
 use borrow.Author.Needs.{needs}
-use Rattle.printing.proofs.hex.Statement.{statement}
-use Rattle.printing.proofs.hex.Tie as tie
+use Rattle.quoting.proofs.hex.Statement.{statement}
+use Rattle.quoting.proofs.hex.Tie as tie
 
 add-result : tie.Need-add-result
 add-result c = search needs
