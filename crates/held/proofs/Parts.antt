@@ -18,6 +18,7 @@ use Rattle.document.specs.declared.table.Record.{Record}
 use Rattle.document.specs.declared.table.Table.{Table}
 use Rattle.kinds.specs.Kinds.{kindOf, recordIn, groups}
 use Rattle.area.specs.Area.{dateOf, dateIn, headIn, tableOfNumbers}
+use Rattle.words.proofs.Rowed.{rows-length}
 use Rattle.area.proofs.Laid.{date-length}
 use Rattle.held.specs.Fits.{U8, U16, U32, U64, TextFits, DateFits, KindFits, AllFit, Fitting}
 
@@ -169,10 +170,6 @@ table-below t f =
     (text-below (h .instructions) roa (g .instructions) (text-below (h .roa) moa (g .roa) (text-below (h .moa) rest (g .moa) b))) in
     let m : AllBelow (flag (h .reserve) ∷ h .meal ∷ unit) = (flag-below (h .reserve), (omega (arith, g .meal), s)) in
     date-below (h .from) (dateWords (h .to) (flag (h .reserve) ∷ h .meal ∷ unit)) (g .from) (date-below (h .to) (flag (h .reserve) ∷ h .meal ∷ unit) (g .to) m)
-
-rows-length : (rs : List Record) → length (rows (allWords rs)) ≡ length rs * 6
-rows-length [] = refl
-rows-length (r ∷ rs) = let e = rows-length rs in omega arith
 
 -- A table has 410 numbers.
 pub table-length : (t : Table) → length (t .records) ≡ 64 → length (tableWords t) ≡ 410

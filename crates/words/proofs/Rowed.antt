@@ -13,6 +13,10 @@ pub rows-append : (xs ys : List Record) → rows (allWords (xs ++ ys)) ≡ rows 
 rows-append [] ys = refl
 rows-append (r ∷ xs) ys = ap (row (recordWords r)) (rows-append xs ys)
 
+pub rows-length : (rs : List Record) → length (rows (allWords rs)) ≡ length rs * 6
+rows-length [] = refl
+rows-length (r ∷ rs) = let e = rows-length rs in omega arith
+
 word-at : (ws pre s : List ℕ) (n j : ℕ) → length pre ≡ n → ws ≡ pre ++ s → getD ws (n + j) 0 ≡ getD s j 0
 word-at ws pre s n j h e = ap (λ t. getD t (n + j) 0) e ∙ ap (λ m. getD (pre ++ s) (m + j) 0) (sym h) ∙ getD-append-add pre s j 0
 
