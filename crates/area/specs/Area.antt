@@ -1,5 +1,5 @@
 -- The lent area of the hospital side (docs/AREA.md): a table's numbers, eight bytes each, the least significant first; and back.
-use Prim.Native.Nat.{ℕ, zero, suc, _+_, _*_, _/_, _%_}
+use Prim.Native.Nat.{ℕ, _+_}
 use mathlib.Core.List.{List, [], _∷_}
 use mathlib.Core.Bool.{Bool}
 use lib.Dec.{eqb}
@@ -12,28 +12,14 @@ use Rattle.document.specs.declared.table.Date.the-variants as D
 use Rattle.document.specs.declared.table.Head.{Head}
 use Rattle.document.specs.declared.table.Table.{Table}
 use Rattle.kinds.specs.Kinds.{u8, u16, u32, recordIn, groups}
+use Rattle.eights.specs.Eights.{allBytes, numberIn}
 
 abbrev pub areaBytes : ℕ
 areaBytes = 3280
 
--- So many bytes of a number, in front of what follows.
-unfoldable pub bytesOf : ℕ → ℕ → List ℕ → List ℕ
-bytesOf zero x k = k
-bytesOf (suc n) x k = x % 256 ∷ bytesOf n (x / 256) k
-
-unfoldable pub allBytes : List ℕ → List ℕ
-unfolding bytesOf
-allBytes [] = []
-allBytes (w ∷ ws) = bytesOf 8 w (allBytes ws)
-
 unfoldable pub areaOf : Table → List ℕ
 unfolding allBytes tableWords
 areaOf t = allBytes (tableWords t)
-
--- The number of so many bytes in front; a byte that is not there counts as 0.
-unfoldable pub numberIn : ℕ → List ℕ → ℕ
-numberIn zero bytes = 0
-numberIn (suc n) bytes = getD bytes 0 0 + 256 * numberIn n (drop 1 bytes)
 
 unfoldable pub numbersIn : List ℕ → List ℕ
 unfolding numberIn groups

@@ -1,3 +1,2 @@
 pub mod Area
 pub mod Dates
-pub mod Fits

@@ -23,7 +23,7 @@ use Rattle.document.proofs.WrittenDates.{small-day}
 use Rattle.document.proofs.Untables.{joined-append, detail-append}
 use Rattle.document.proofs.Untabled.{bytesOf, length-of, strings-append, detail-length, filled-is}
 use Rattle.doses.proofs.DaySums.{days-sum}
-use Rattle.area.specs.Fits.{U8, U32, U64, TextFits, DayFits, DateFits, DosageFits, AllFit, Fitting}
+use Rattle.held.specs.Fits.{U8, U32, U64, TextFits, DayFits, DateFits, DosageFits, AllFit, Fitting}
 
 amount : (a : ℕ) → isAmount a ≡ true → U64 a
 amount a v = let h = leb-true a greatestDecimal v in omega arith

@@ -6,7 +6,8 @@ use Rattle.document.specs.Words.{allWords, rows, headWords, tableWords}
 use Rattle.document.specs.declared.table.Head.{Head}
 use Rattle.kinds.specs.Kinds.{atMost, recordsIn}
 use Rattle.heads.specs.declared.head.HeadRead.{HeadRead}
-use Rattle.area.specs.Area.{allBytes, areaOf}
+use Rattle.eights.specs.Eights.{allBytes}
+use Rattle.area.specs.Area.{areaOf}
 use Rattle.building.specs.Built.{headCells, built}
 
 pub read-laid : (h : HeadRead) (ws : List ℕ) {tidied : List ℕ} {head : Head} {count : ℕ} → tidied ≡ rows (allWords (recordsIn (h .used .records) ws)) → head ≡ headCells h → count ≡ atMost (h .used .records)

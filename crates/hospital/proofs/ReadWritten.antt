@@ -25,7 +25,7 @@ use Rattle.document.proofs.Sound.{Utf8Tree}
 use Rattle.document.proofs.Utf8Texts.{value-utf8}
 use Rattle.document.proofs.Demand2.{accepted-iff-spells, plain-is-one}
 use Rattle.area.specs.Area.{areaBytes, areaOf}
-use Rattle.area.proofs.AreaBack.{area-back, area-length, is-area}
+use Rattle.held.proofs.AreaBack.{area-back, area-length, is-area}
 use Rattle.hospital.specs.Calls.{called, areaAfter, calledNext, nextAreaAfter, calledWrite}
 use Rattle.hospital.proofs.ReadFits.{read-fits}
 use Rattle.hospital.proofs.WriteCalls.{sized}

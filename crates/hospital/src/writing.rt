@@ -26,10 +26,10 @@ pub extern "C" fn posology_write(
     if !is_use(purpose) {
         return 17;
     }
-    if !area::is_area(table) {
+    if !held::is_area(table) {
         return 18;
     }
-    let w = writer::write(area::table_in(table), strings, purpose, out);
+    let w = writer::write(held::table_in(table), strings, purpose, out);
     match w {
         Writing::Written { length } => {
             *place = length as u64;

@@ -1,0 +1,6 @@
+pub mod AreaBack
+mod InFits
+mod Numbers
+mod Parts
+mod Same
+mod Tags
