@@ -2,7 +2,7 @@
 use Prim.Native.Nat.{ℕ, suc, _<_}
 use mathlib.Core.Path.{_≡_, refl, sym, ap, _∙_}
 use mathlib.Core.List.{List, [], _∷_}
-use mathlib.Core.Bool.{Bool, true, false}
+use mathlib.Core.Bool.{Bool, true, false, false≢true}
 use lib.ListN.{length, getD, drop}
 use lib.Seq.{drop-cons}
 use lib.Dec.{eqb}
@@ -164,6 +164,12 @@ mode-stays Behind b (aList ∷ k) e = rw e
 mode-stays Behind b (anObject ∷ k) e = rw e
 
 -- ---- the byte at a place, by the mode there
+then-is : {m n : Mode} → Then m ≡ Then n → m ≡ n
+then-is e = cc
+
+no-then : {n : Mode} → NoString ≡ Then n → ⊥
+no-then e = let z : _≡_ {A = ℕ} 0 1 = cc in absurd (omega arith)
+
 abbrev apart : Mode → Bool
 apart Value = true
 apart FirstElement = true
@@ -183,22 +189,22 @@ module _ (text : List ℕ) (at : ℕ) (h : at < length text) (mode : Mode) (k : 
   quote-begins {next} q e = rw (walk-at text at h (modeOf mode) k, q) (by mode e)
     where
       by : (m : Mode) → behindQuoted m ≡ Then next → steps text at (step (modeOf m) 34 k) ≡ stopped (stringStop Plain (drop (suc at) text)) (walk (modeOf next) k)
-      by Value e = let n : Behind ≡ next = cc in rw (← n) (string-walk k (drop (suc at) text))
-      by FirstElement e = let n : Behind ≡ next = cc in rw (← n) (string-walk k (drop (suc at) text))
-      by FirstName e = let n : Colon ≡ next = cc in rw (← n) (name-walk k (drop (suc at) text))
-      by Name e = let n : Colon ≡ next = cc in rw (← n) (name-walk k (drop (suc at) text))
-      by Colon e = cc
-      by Behind e = cc
+      by Value e = rw (← then-is e) (string-walk k (drop (suc at) text))
+      by FirstElement e = rw (← then-is e) (string-walk k (drop (suc at) text))
+      by FirstName e = rw (← then-is e) (name-walk k (drop (suc at) text))
+      by Name e = rw (← then-is e) (name-walk k (drop (suc at) text))
+      by Colon e = absurd (no-then e)
+      by Behind e = absurd (no-then e)
 
   pub quote-wrong : here ≡ 34 → behindQuoted mode ≡ NoString → walk (modeOf mode) k (drop at text) ≡ refused2 (drop at text)
   unfolding step
   quote-wrong q e = rw (walk-at text at h (modeOf mode) k, q) (by mode k e)
     where
       by : (m : Mode) (k : List Frame) → behindQuoted m ≡ NoString → steps text at (step (modeOf m) 34 k) ≡ refused2 (drop at text)
-      by Value k e = cc
-      by FirstElement k e = cc
-      by FirstName k e = cc
-      by Name k e = cc
+      by Value k e = absurd (no-then (sym e))
+      by FirstElement k e = absurd (no-then (sym e))
+      by FirstName k e = absurd (no-then (sym e))
+      by Name k e = absurd (no-then (sym e))
       by Colon k e = refl
       by Behind [] e = refl
       by Behind (aList ∷ k) e = refl
@@ -212,10 +218,10 @@ module _ (text : List ℕ) (at : ℕ) (h : at < length text) (mode : Mode) (k : 
         by : (m : Mode) → closesEmpty m here ≡ true → steps text at (step (modeOf m) here k) ≡ steps text at (W.shut k)
         by FirstElement e = rw (blank, e)
         by FirstName e = rw (eqb-true here 125 e)
-        by Value e = cc
-        by Name e = cc
-        by Colon e = cc
-        by Behind e = cc
+        by Value e = absurd (false≢true e)
+        by Name e = absurd (false≢true e)
+        by Colon e = absurd (false≢true e)
+        by Behind e = absurd (false≢true e)
 
   module _ (byte : Byte mode here) where
     pub value-begins : takesValue mode ≡ true → walk (modeOf mode) k (drop at text) ≡ steps text at (W.begin here k)
@@ -225,10 +231,10 @@ module _ (text : List ℕ) (at : ℕ) (h : at < length text) (mode : Mode) (k : 
         by : (m : Mode) → takesValue m ≡ true → closesEmpty m here ≡ false → steps text at (step (modeOf m) here k) ≡ steps text at (W.begin here k)
         by Value e n = rw (byte .blank)
         by FirstElement e n = rw (byte .blank, n)
-        by FirstName e n = cc
-        by Name e n = cc
-        by Colon e n = cc
-        by Behind e n = cc
+        by FirstName e n = absurd (false≢true e)
+        by Name e n = absurd (false≢true e)
+        by Colon e n = absurd (false≢true e)
+        by Behind e n = absurd (false≢true e)
 
     -- neither a colon nor a comma may stand here
     pub name-wrong : apart mode ≡ true → takesValue mode ≡ false → walk (modeOf mode) k (drop at text) ≡ refused2 (drop at text)
@@ -236,12 +242,12 @@ module _ (text : List ℕ) (at : ℕ) (h : at < length text) (mode : Mode) (k : 
     name-wrong a e = rw (walk-at text at h (modeOf mode) k) (by mode a e (byte .closes))
       where
         by : (m : Mode) → apart m ≡ true → takesValue m ≡ false → closesEmpty m here ≡ false → steps text at (step (modeOf m) here k) ≡ refused2 (drop at text)
-        by Value a e n = cc
-        by FirstElement a e n = cc
+        by Value a e n = absurd (false≢true (sym e))
+        by FirstElement a e n = absurd (false≢true (sym e))
         by FirstName a e n = rw (byte .blank, ne-eqb here 34 (byte .quote), n)
         by Name a e n = rw (byte .blank, ne-eqb here 34 (byte .quote))
-        by Colon a e n = cc
-        by Behind a e n = cc
+        by Colon a e n = absurd (false≢true a)
+        by Behind a e n = absurd (false≢true a)
 
 -- ---- inside the text's own brace, which was at the place before `start`
 pub record Inside (text : List ℕ) (start at : ℕ) (mode : Mode) (d n : ℕ) : Type 0 where
