@@ -1,7 +1,7 @@
 -- What is left behind blanks is the same from every blank passed.
 use borrow.Author.Needs.{needs}
 use Prim.Native.Nat.{_-_}
-use mathlib.Core.Path.{sym}
+use mathlib.Core.Path.{sym, _∙_}
 use lib.ListN.{length}
 use Rattle.json.specs.Byte.{blanked}
 use Rattle.json.proofs.Moves.{Leads, lead-start, lead-here, lead-one, lead-end, moved}
@@ -33,12 +33,12 @@ loop-less c = search needs
 loop-again : tie.Need-loop-again Inv-loop μ-loop
 loop-again c =
     let l = c .before .before .before in
-    lead-one (l .before .loop .inv) (l .loop-test .taken) (λ s. sym (blank-goes _ (cc) s))
+    lead-one (l .before .loop .inv) (l .loop-test .taken) (λ s. sym (blank-goes _ (sym (c .before .is-blank .ensures) ∙ c .if1 .taken) s))
 
 returns : tie.Need-returns Inv-loop μ-loop
 returns c =
     let l = c .before .before .before in
-    moved (lead-here (l .before .loop .inv) (l .loop-test .taken) (λ s. sym (blank-stays _ (cc) s)))
+    moved (lead-here (l .before .loop .inv) (l .loop-test .taken) (λ s. sym (blank-stays _ (sym (c .before .is-blank .ensures) ∙ c .if1 .left) s)))
 
 returns-2 : tie.Need-returns-2 Inv-loop μ-loop
 returns-2 c = moved (lead-end (c .before .loop .inv) (c .loop-test .left) (sym blanked-none))

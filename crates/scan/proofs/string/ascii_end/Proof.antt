@@ -1,6 +1,7 @@
 -- Each byte passed is a character of its own, so the string ends where it ended.
 use borrow.Author.Needs.{needs}
 use Prim.Native.Nat.{_-_}
+use mathlib.Core.Path.{sym, _∙_}
 use lib.ListN.{length}
 use Rattle.json.specs.Part.{stringStop}
 use Rattle.json.specs.declared.string.InString.the-variants.{Plain}
@@ -33,7 +34,7 @@ loop-less c = search needs
 loop-again : tie.Need-loop-again Inv-loop μ-loop
 loop-again c =
     let l = c .before .before .before in
-    passes-one (l .before .loop .inv) (l .loop-test .taken) (ascii-goes _ (cc))
+    passes-one (l .before .loop .inv) (l .loop-test .taken) (ascii-goes _ (sym (c .before .is-ascii .ensures) ∙ c .if1 .taken))
 
 returns : tie.Need-returns Inv-loop μ-loop
 returns c = skips (c .before .before .before .before .loop .inv)

@@ -1,7 +1,7 @@
 -- Where the string ends is asked of the rest, in the state that the bytes passed lead to.
 use borrow.Author.Needs.{needs}
 use Prim.Native.Nat.{_-_}
-use mathlib.Core.Path.{sym}
+use mathlib.Core.Path.{sym, _∙_}
 use native.Mathlib.Omega.{arith}
 use lib.ListN.{length}
 use Rattle.json.specs.Part.{past, torn, stringStop}
@@ -44,7 +44,7 @@ loop-less c = search needs
 loop-again : tie.Need-loop-again Inv-loop μ-loop
 loop-again c =
     let l = c .before .before .before .before .before .before in
-    skipped (passes-one (l .before .loop .inv) (l .loop-test .taken) (string-goes _ _ (cc))) (c .ascii-skipped .ensures)
+    skipped (passes-one (l .before .loop .inv) (l .loop-test .taken) (string-goes _ _ (sym (c .before .before .before .before .char-after .ensures) ∙ c .before .before .next .given .1))) (c .ascii-skipped .ensures)
 
 enum-told : tie.Need-enum-told Inv-loop μ-loop
 enum-told c = search needs
@@ -55,7 +55,7 @@ add-t12 c = search needs
 returns : tie.Need-returns Inv-loop μ-loop
 returns c =
     let l = c .before .before .before .before in
-    let p = passes-one (l .before .loop .inv) (l .loop-test .taken) {k = past} (string-closes _ _ (cc)) in
+    let p = passes-one (l .before .loop .inv) (l .loop-test .taken) {k = past} (string-closes _ _ (sym (c .before .before .char-after .ensures) ∙ c .enum-told .given .1)) in
     (sym (p .same), p .ahead, omega arith)
 
 enum-told-2 : tie.Need-enum-told-2 Inv-loop μ-loop
@@ -64,7 +64,7 @@ enum-told-2 c = search needs
 returns-2 : tie.Need-returns-2 Inv-loop μ-loop
 returns-2 c =
     let l = c .before .before .before .before in
-    (answers-here (l .before .loop .inv) (l .loop-test .taken) torn (string-refuses _ _ (cc)), omega arith)
+    (answers-here (l .before .loop .inv) (l .loop-test .taken) torn (string-refuses _ _ (sym (c .before .before .char-after .ensures) ∙ c .enum-told2 .given .1)), omega arith)
 
 returns-3 : tie.Need-returns-3 Inv-loop μ-loop
 returns-3 c = (answers-end (c .before .loop .inv) torn (c .loop-test .left) (string-none _), omega arith)
