@@ -20,7 +20,7 @@ use Rattle.document.specs.declared.table.Record.{Record}
 use Rattle.kinds.specs.Kinds.{kindOf, recordIn, groups}
 use Rattle.building.specs.Built.{recordsOf}
 use Rattle.visits.specs.Visiting.{DetailRows, ObjectRows, ObjectsRows}
-use Rattle.document.proofs.Good.{and-left, and-right}
+use Rattle.json.proofs.Truth.{and-left, and-right}
 use Rattle.building.proofs.Carried.{duration-carried, unit-carried, small-carried, days-carried}
 
 -- A record in front of others.

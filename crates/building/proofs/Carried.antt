@@ -12,7 +12,7 @@ use Rattle.document.specs.Schema.{greatestInteger}
 use Rattle.document.specs.Table.{daySet}
 use Rattle.document.specs.Visit.{isEmpty}
 use Rattle.document.specs.Valid.{isDuration, isTimeUnit, climbs, isDays}
-use Rattle.document.proofs.Good.{and-left, and-right}
+use Rattle.json.proofs.Truth.{and-left, and-right}
 
 pub duration-carried : (n : ℕ) → isDuration n ≡ true → n % 0x100000000 ≡ n
 duration-carried n h = mod-eq-of-lt (omega (arith, leb-true n greatestInteger (and-right (leb 1 n) (leb n greatestInteger) h)))

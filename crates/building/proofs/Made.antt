@@ -18,7 +18,7 @@ use Rattle.building.specs.Built.{pieceCell, headCells, recordsOf, countO
 use Rattle.heads.specs.Heads.{PieceOf, Holds}
 use Rattle.heads.specs.declared.head.Piece.{Piece}
 use Rattle.heads.specs.declared.head.HeadRead.{HeadRead}
-use Rattle.document.proofs.Good.{and-left}
+use Rattle.json.proofs.Truth.{and-left}
 use Rattle.kinds.specs.Kinds.{recordIn, groups, recordsIn}
 use Rattle.kinds.proofs.Fill.{groups-length}
 use Rattle.document.proofs.Untabled.{filled-is}

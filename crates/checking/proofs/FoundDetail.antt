@@ -21,7 +21,7 @@ use Rattle.document.specs.declared.table.Kind.the-variants as K
 use Rattle.words.specs.Standing.{belowAt, bAt, At, Lies}
 use Rattle.doses.proofs.Lies.{moved}
 use Rattle.document.proofs.Untables.{joined-append}
-use Rattle.document.proofs.Good.{and-left, and-right}
+use Rattle.json.proofs.Truth.{and-left, and-right}
 use Rattle.doses.proofs.Decided.{same-parent}
 use Rattle.doses.proofs.Found.{timed-found, lets-single, lets-cyclic}
 use Rattle.doses.specs.Doses.{daily, single, cyclic}

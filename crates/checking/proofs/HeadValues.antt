@@ -21,8 +21,7 @@ use Rattle.document.specs.declared.table.Date.the-variants as D
 use Rattle.document.specs.declared.table.Head.{Head}
 use Rattle.document.proofs.Parts.{all-nine}
 use Rattle.document.proofs.Untabled.{date-back, order-back}
-use Rattle.document.proofs.Good.{and-left, and-right}
-use Rattle.doses.proofs.Lies.{both}
+use Rattle.json.proofs.Truth.{and-left, and-right, and-both}
 use Rattle.checking.proofs.Pieces.{unit-given}
 use Rattle.checking.specs.Readable.{HeadRight}
 
@@ -44,7 +43,7 @@ valid-meal m h = go (eqb m 0) refl
   where
     go : (b : Bool) → eqb m 0 ≡ b → ifGiven isMeal (cond {A = Option ℕ} b none (some m)) ≡ true
     go true e = refl
-    go false e = let f = eqb-false m 0 e in both (le-leb 1 m (omega arith)) (le-leb m 6 h)
+    go false e = let f = eqb-false m 0 e in and-both (le-leb 1 m (omega arith)) (le-leb m 6 h)
 
 meal-most : (o : Option ℕ) → ifGiven isMeal o ≡ true → Option·getD o 0 ≤ 6
 meal-most none h = omega arith
@@ -75,7 +74,7 @@ valid-parts purpose p v =
 
 pub parts-valid : (purpose : ℕ) (p : Posology) → Parts purpose p → detailRecords (p .po) ≤ 64 → valid purpose p ≡ true
 unfolding valid validFields
-parts-valid purpose p n few = both (both (both (both (both (both (both (both (both (n .from) (n .to)) (n .detail)) (n .meal)) (n .unit)) (n .instructions)) (n .roa)) (n .moa)) (n .ordered)) (le-leb (detailRecords (p .po)) 64 few)
+parts-valid purpose p n few = and-both (and-both (and-both (and-both (and-both (and-both (and-both (and-both (and-both (n .from) (n .to)) (n .detail)) (n .meal)) (n .unit)) (n .instructions)) (n .roa)) (n .moa)) (n .ordered)) (le-leb (detailRecords (p .po)) 64 few)
 
 pub head-right : (purpose : ℕ) (p : Posology) → Parts purpose p → HeadRight (headOf p) purpose
 unfolding headOf

@@ -16,7 +16,8 @@ use Rattle.document.specs.Words.{allWords}
 use Rattle.document.specs.declared.table.Record.{Record}
 use Rattle.document.proofs.Untables.{joined-append}
 use Rattle.words.specs.Standing.{belowAt, aAt, bAt, cAt, dAt, Lies}
-use Rattle.doses.proofs.Lies.{both, moved, single-is, cyclic-is}
+use Rattle.json.proofs.Truth.{and-both}
+use Rattle.doses.proofs.Lies.{moved, single-is, cyclic-is}
 use Rattle.doses.specs.Doses.{Row, Nested, StillAt, daily, single, cyclic}
 use Rattle.checking.specs.Checks.{FreeTextAt, DetailAt, still, freeText, sequence, ObjectAt, pause, posology, ObjectsAt, last, more}
 
@@ -54,7 +55,7 @@ module _ {ws buffer : List ℕ} where
   unfolding validDetail detailRows detailRecords detailStrings
   still-is {left} {i} {text} {u} (daily o) e = record {
     value = P.daily (aAt ws i) (bAt ws i) (cAt ws i) (dAt ws i);
-    valid = both (both (both (le-leb (aAt ws i) 999999999999 (o .a-most)) (le-leb (bAt ws i) 999999999999 (o .b-most))) (le-leb (cAt ws i) 999999999999 (o .c-most))) (le-leb (dAt ws i) 999999999999 (o .d-most));
+    valid = and-both (and-both (and-both (le-leb (aAt ws i) 999999999999 (o .a-most)) (le-leb (bAt ws i) 999999999999 (o .b-most))) (le-leb (cAt ws i) 999999999999 (o .c-most))) (le-leb (dAt ws i) 999999999999 (o .d-most));
     lies = λ k l. (record { inside = o .inside; tag = o .tag; below = omega arith; a = refl; b = refl; c = refl; d = refl }, l);
     count = omega arith;
     taken = λ k. omega arith;
@@ -78,7 +79,7 @@ module _ {ws buffer : List ℕ} where
       let n : i + (1 + timedRecords (t .value)) ≡ i + 1 + timedRecords (t .value) = omega arith in
       record {
         value = P.cyclic (aAt ws i) (bAt ws i) (t .value) (cAt ws i);
-        valid = both (both (both (both (le-leb 1 (aAt ws i) (o .a-least)) (le-leb (aAt ws i) 7 (o .a-most))) (both (le-leb 1 (bAt ws i) (o .b-least)) (le-leb (bAt ws i) 99999 (o .b-most)))) (t .valid)) (both (le-leb 1 (cAt ws i) (o .c-least)) (le-leb (cAt ws i) 99999 (o .c-most)));
+        valid = and-both (and-both (and-both (and-both (le-leb 1 (aAt ws i) (o .a-least)) (le-leb (aAt ws i) 7 (o .a-most))) (and-both (le-leb 1 (bAt ws i) (o .b-least)) (le-leb (bAt ws i) 99999 (o .b-most)))) (t .valid)) (and-both (le-leb 1 (cAt ws i) (o .c-least)) (le-leb (cAt ws i) 99999 (o .c-most)));
         lies = λ k l. (record { inside = o .inside; tag = o .tag; below = omega (arith, p .nested, t .count); a = refl; b = refl; c = refl; d = omega arith }, t .lies k (moved ws (allWords k) n l));
         count = omega (arith, p .nested, t .count);
         taken = λ k. omega arith;
@@ -93,7 +94,7 @@ module _ {ws buffer : List ℕ} where
       let n : length cs ≡ bAt ws i = length-take-le (bAt ws i) (drop text buffer) (omega (arith, length-drop text buffer, o .b-most)) in
       record {
         value = P.freeText cs;
-        valid = both (not-empty cs (omega (arith, o .b-least))) (p .utf8);
+        valid = and-both (not-empty cs (omega (arith, o .b-least))) (p .utf8);
         lies = λ k l. (record { inside = o .inside; tag = o .tag; below = omega arith; a = omega arith; b = sym n; c = omega arith; d = omega arith }, l);
         count = omega arith;
         taken = λ k. let j = ap length (joined-append cs k) ∙ length-append cs k in omega arith;
@@ -106,7 +107,7 @@ module _ {ws buffer : List ℕ} where
       let n : i + 1 + belowAt ws i ≡ i + 1 = omega (arith, o .below-most) in
       record {
         value = P.pause (aAt ws i) (bAt ws i);
-        valid = both (both (le-leb 1 (aAt ws i) (o .a-least)) (le-leb (aAt ws i) 99999 (o .a-most))) (both (le-leb 1 (bAt ws i) (o .b-least)) (le-leb (bAt ws i) 7 (o .b-most)));
+        valid = and-both (and-both (le-leb 1 (aAt ws i) (o .a-least)) (le-leb (aAt ws i) 99999 (o .a-most))) (and-both (le-leb 1 (bAt ws i) (o .b-least)) (le-leb (bAt ws i) 7 (o .b-most)));
         lies = λ k l. (record { inside = o .inside; tag = o .tag; below = omega (arith, o .below-most); a = refl; b = refl; c = omega (arith, o .c-most); d = omega (arith, o .d-most) }, moved ws (allWords k) n l);
         count = omega (arith, o .below-most);
         taken = λ k. omega arith;
@@ -121,7 +122,7 @@ module _ {ws buffer : List ℕ} where
       let m : suc left - 1 ≡ left = omega arith in
       record {
         value = P.sequence (r .value);
-        valid = both (r .some) (subst (λ x. validObjects (r .value) x ≡ true) m (r .valid));
+        valid = and-both (r .some) (subst (λ x. validObjects (r .value) x ≡ true) m (r .valid));
         lies = λ k l. (record { inside = o .inside; tag = o .tag; below = omega (arith, r .count); a = omega (arith, o .a-most); b = omega (arith, o .b-most); c = omega (arith, o .c-most); d = omega (arith, o .d-most) }, r .lies k (moved ws (allWords k) n l));
         count = omega (arith, r .count);
         taken = r .taken;
@@ -134,7 +135,7 @@ module _ {ws buffer : List ℕ} where
       let n : i + 1 + belowAt ws i ≡ i + 1 + detailRecords (r .value) = omega (arith, r .count) in
       record {
         value = P.posologySequence (aAt ws i) (bAt ws i) (r .value);
-        valid = both (both (both (le-leb 1 (aAt ws i) (o .a-least)) (le-leb (aAt ws i) 99999 (o .a-most))) (both (le-leb 1 (bAt ws i) (o .b-least)) (le-leb (bAt ws i) 7 (o .b-most)))) (r .valid);
+        valid = and-both (and-both (and-both (le-leb 1 (aAt ws i) (o .a-least)) (le-leb (aAt ws i) 99999 (o .a-most))) (and-both (le-leb 1 (bAt ws i) (o .b-least)) (le-leb (bAt ws i) 7 (o .b-most)))) (r .valid);
         lies = λ k l. (record { inside = o .inside; tag = o .tag; below = omega (arith, r .count); a = refl; b = refl; c = omega (arith, o .c-most); d = omega (arith, o .d-most) }, r .lies k (moved ws (allWords k) n l));
         count = omega (arith, r .count);
         taken = r .taken;
@@ -146,7 +147,7 @@ module _ {ws buffer : List ℕ} where
   one-object left end i text u e r = record {
     value = P.objectThen (r .value) P.noObject;
     some = refl;
-    valid = both (r .valid) refl;
+    valid = and-both (r .valid) refl;
     lies = λ k l. r .lies k (moved ws (allWords k) (sym e) l);
     count = omega (arith, r .count);
     taken = r .taken;
@@ -160,7 +161,7 @@ module _ {ws buffer : List ℕ} where
       record {
         value = P.objectThen (r .value) (q .value);
         some = refl;
-        valid = both (r .valid) (q .valid);
+        valid = and-both (r .valid) (q .valid);
         lies = λ k l. subst (λ x. Lies ws i (allWords (objectRows (r .value) text (objectsRows (q .value) x k)))) (sym w) (r .lies (objectsRows (q .value) v k) (q .lies k l));
         count = omega (arith, r .count, q .count);
         taken = λ k. omega (arith, r .taken (objectsStrings (q .value) k), q .taken k);

@@ -15,8 +15,7 @@ use Rattle.document.specs.Valid.{isText, ifGiven, isUnitFor}
 use Rattle.document.specs.Table.{textCell, lengthOf}
 use Rattle.document.specs.declared.table.Text.{Text}
 use Rattle.document.proofs.Untabled.{bytesOf}
-use Rattle.document.proofs.Good.{and-left, and-right}
-use Rattle.doses.proofs.Lies.{both}
+use Rattle.json.proofs.Truth.{and-left, and-right, and-both}
 use Rattle.checking.proofs.LiesDetail.{not-empty}
 use Rattle.checking.proofs.FoundDetail.{not-none}
 use Rattle.checking.specs.Readable.{PieceAt, absent, present}
@@ -46,7 +45,7 @@ piece-is {buffer} {t} {text} {u} (present p e) =
     let n : length cs ≡ t .len = length-take-le (t .len) (drop text buffer) (omega (arith, length-drop text buffer, p .fits)) in
     record {
       value = some cs;
-      valid = both (not-empty cs (omega (arith, p .some))) (p .utf8);
+      valid = and-both (not-empty cs (omega (arith, p .some))) (p .utf8);
       cell = λ at h. same-text t at (length cs) (h ∙ sym (p .starts)) n;
       len = n;
       sum = omega arith;

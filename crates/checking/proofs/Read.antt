@@ -16,7 +16,8 @@ use Rattle.document.specs.declared.table.Head.{Head}
 use Rattle.document.specs.declared.table.Table.{Table}
 use Rattle.document.proofs.WordsBack.{words-one}
 use Rattle.document.proofs.Untables.{detail-append}
-use Rattle.document.proofs.Untabled.{bytesOf, strings-append, detail-rows, detail-length, unit-text}
+use Rattle.document.proofs.Parts.{unit-text}
+use Rattle.document.proofs.Untabled.{bytesOf, strings-append, detail-rows, detail-length}
 use Rattle.document.proofs.Strings.{strings-size}
 use Rattle.document.proofs.Tables.{own-readable}
 use Rattle.words.specs.Standing.{Lies}

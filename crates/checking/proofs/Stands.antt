@@ -16,7 +16,7 @@ use Rattle.document.specs.Words.{allWords, rows, tableWords}
 use Rattle.document.specs.Untable.{posologyOf}
 use Rattle.document.specs.Write.{greatestRoom, isTableOf, readable}
 use Rattle.document.specs.declared.table.Table.{Table}
-use Rattle.document.proofs.Good.{and-left, and-right}
+use Rattle.json.proofs.Truth.{and-left, and-right}
 use Rattle.document.proofs.WordsBack.{words-one}
 use Rattle.document.proofs.Untabled.{detail-length, filled-is}
 use Rattle.document.proofs.Same.{same-equal}

@@ -14,7 +14,8 @@ use Rattle.document.specs.Schema.{aPosology, anObject}
 use Rattle.document.specs.Visit.{Left, Outcome, done, visit, recordsAtMost}
 use Rattle.document.specs.Valid.{valid, validFields, detailRecords, joined, given, detailStrings, objectStrings, objectsStrings, strings, Fits}
 use Rattle.document.specs.Spells.{meaningOf, meantMembers, Means}
-use Rattle.document.proofs.Good.{detailText, objectText, objectsText, givenText, posologyText, Good, and-both, and-left, and-right}
+use Rattle.json.proofs.Truth.{and-both, and-left, and-right}
+use Rattle.document.proofs.Good.{detailText, objectText, objectsText, givenText, posologyText, Good}
 use Rattle.document.proofs.Sound.{All, Utf8Tree, tree-sound}
 use Rattle.document.proofs.Complete.{visit-complete, posology-means}
 

@@ -8,7 +8,6 @@ use native.Mathlib.Omega.{arith}
 use lib.Dec.{eqb, leb, ltb, leb·zero}
 use lib.ListN.{length, drop}
 use borrow.Author.Tests.{le-leb}
-use Rattle.json.specs.Rows.{choose}
 use Rattle.json.specs.Tree.{Place, Tree, object, list, string, number, bool, null, Members, noMember, member, Elements, noElement, element}
 use Rattle.numbers.specs.Number.{integerIn, decimalFrom, carried, negative, rounded, allZero, behindPoint, millionths as millionthsOf}
 use Rattle.numbers.specs.declared.Integer.{Integer}
@@ -22,7 +21,8 @@ use Rattle.document.specs.Schema.{greatestDecimal, Family, aPosology, aD
 use Rattle.document.specs.Visit.{Left, recordLess, roomLess, Outcome, done, bind, guard, unless, Value, needed, present, optional, fields, opening, body, placeOf, typed, members, whole, millionths, digits, orRefused, chars, each, isEmpty, distinct, ascending, decimals, elements, ofNumber, ofString, ofBool, ofObject, ofList, valueOf, entriesOf, valuesOf, visit, recordsAtMost}
 use Rattle.document.specs.Valid.{every, isAmount, isDays}
 use Rattle.document.specs.Spells.{Meaning, Given, Perhaps, FieldsMean, MembersMean, DigitsMean, CharsMean, EachMeans, ElementsMean, NumberMeans, StringMeans, BoolMeans, ObjectMeans, ListMeans, meaningOf, meantMembers, meantElements, Means}
-use Rattle.document.proofs.Good.{sum, validOf, recordsOf, textOf, Takes, Good, and-both, and-left, and-right}
+use Rattle.json.proofs.Truth.{and-both, and-left, and-right, choose-true}
+use Rattle.document.proofs.Good.{sum, validOf, recordsOf, textOf, Takes, Good}
 use Rattle.document.proofs.Days.{days-in-range, days-some}
 use Rattle.document.proofs.Makes.{takes-as}
 use Rattle.document.proofs.Sound.{good-free, numbers-take}
@@ -48,10 +48,6 @@ cond-true false x y e = absurd (false≢true e)
 cond-false : {A : Type 0} (b : Bool) (x y : A) → b ≡ false → cond b x y ≡ y
 cond-false true x y e = absurd (true≢false e)
 cond-false false x y e = refl
-
-choose-true : {A : Type 0} (b : Bool) (x y : Unit {0} → A) → b ≡ true → choose b x y ≡ x tt
-choose-true true x y e = refl
-choose-true false x y e = absurd (false≢true e)
 
 pub record Complete (v : Value) (m : Meaning) : Type 0 where
   pub absent : (s : Shape) → v .absent s ≡ m .absent s

@@ -11,7 +11,7 @@ use Rattle.document.specs.Visit.{isEmpty}
 use Rattle.document.specs.Valid.{climbs, isDays}
 use Rattle.document.specs.Table.{daySet}
 use Rattle.document.specs.Untable.{keep, daysOf}
-use Rattle.document.proofs.Good.{and-left, and-right, and-both}
+use Rattle.json.proofs.Truth.{and-left, and-right, and-both}
 
 -- The bits counted from a day on.
 abbrev pub from : ℕ → List ℕ → ℕ

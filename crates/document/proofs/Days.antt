@@ -10,7 +10,7 @@ use Rattle.json.specs.Rows.{choose}
 use Rattle.document.specs.Date.{among}
 use Rattle.document.specs.Visit.{isEmpty, distinct, inserted, ascending}
 use Rattle.document.specs.Valid.{climbs, isDays, every}
-use Rattle.document.proofs.Good.{and-both, and-left, and-right}
+use Rattle.json.proofs.Truth.{and-both, and-left, and-right}
 
 or-false-left : (a b : Bool) → (a || b) ≡ false → a ≡ false
 or-false-left true b h = h

@@ -1,7 +1,7 @@
 -- When a value is within its shape, and what reading it takes of the records and the text room.
-use mathlib.Core.Path.{_≡_, refl}
+use mathlib.Core.Path.{_≡_}
 use mathlib.Core.List.{List, [], _∷_}
-use mathlib.Core.Bool.{Bool, true, false, not, _&&_, false≢true}
+use mathlib.Core.Bool.{Bool, true, false, not, _&&_}
 use mathlib.Core.Option.{Option, none, some}
 use Prim.Native.Nat.{ℕ, _+_}
 use lib.Dec.{leb}
@@ -150,15 +150,3 @@ Made (need n s k) l a l″ = (x : Of s) × (l′ : Left) × Good s x l l′ × F
 Made (may n s k) l a l″ = (x : Option (Of s)) × (l′ : Left) × GoodOption s x l l′ × Made (k x) l′ a l″
 Made (gives b) l a l″ = (b ≡ a) × (l ≡ l″)
 Made (gives-if test b) l a l″ = (test ≡ true) × (b ≡ a) × (l ≡ l″)
-
--- Tests that both hold, and each of them.
-pub and-both : {a b : Bool} → a ≡ true → b ≡ true → (a && b) ≡ true
-and-both {a} {b} p q = rw (p, q)
-
-pub and-left : (a b : Bool) → (a && b) ≡ true → a ≡ true
-and-left true b h = refl
-and-left false b h = h
-
-pub and-right : (a b : Bool) → (a && b) ≡ true → b ≡ true
-and-right true b h = h
-and-right false b h = absurd (false≢true h)

@@ -20,7 +20,8 @@ use Rattle.document.specs.Visit.{isEmpty, recordsAtMost}
 use Rattle.document.specs.Valid.{isText, climbs, isDays, isDuration, isTimeUnit, isMeal, isUnitFor, ifGiven, validTimed, validDetail, validObject, validObjects, someObject, validFields, valid, timedRecords, detailRecords, objectRecords, objectsRecords, strings, Fits}
 use Rattle.document.specs.Write.{greatestRoom}
 use Rattle.document.specs.Plain.{two, clock, zoneText, dayText, wholeDigits, fractionDigits, pointed, whole, amount, fieldIf, textTree, timeText, dosageTree, daysTree, timesTree, segmentsTree, timedTree, detailTree, objectTree, objectsTree, Slot, fieldOf, membersOf, mapped, dateTree, reserveTree, headSlots, plainTree, plainThen, plain}
-use Rattle.document.proofs.Good.{detailText, objectText, objectsText, givenText, and-left, and-right}
+use Rattle.json.proofs.Truth.{and-left, and-right}
+use Rattle.document.proofs.Good.{detailText, objectText, objectsText, givenText}
 use Rattle.document.proofs.Parts.{all-nine}
 use Rattle.document.proofs.Written.{digits-length, fraction-length}
 use Rattle.document.proofs.Accepts.{strings-length}

@@ -14,7 +14,8 @@ use Rattle.document.specs.Date.{among, isDate}
 use Rattle.document.specs.Schema.{greatestInteger, aPosology, aDetail, aTimed, aDosage, aSequenceObject, anAtTime, anInSegment, mealCodes, NumberShape, integer, date, Shape, aNumber, aString, aFlag, anObject, Of, Rows, need, may, aText, rowsOf}
 use Rattle.document.specs.Visit.{Left, isEmpty}
 use Rattle.document.specs.Valid.{isAmount, isDuration, isText, isMeal, isUnitFor, ifGiven, every, someObject, validDosage, validTimed, validDetail, validObject, validObjects, validFields, detailRecords, objectRecords, objectsRecords}
-use Rattle.document.proofs.Good.{sum, recordsOf, textOf, detailText, objectText, objectsText, givenText, Takes, Good, GoodOption, Made, and-both, and-left, and-right}
+use Rattle.json.proofs.Truth.{and-both, and-left, and-right}
+use Rattle.document.proofs.Good.{sum, recordsOf, textOf, detailText, objectText, objectsText, givenText, Takes, Good, GoodOption, Made}
 
 pub takes-none : {l l′ : Left} → l ≡ l′ → Takes 0 0 l l′
 takes-none {l} {l′} e = let p = ap (λ (k : Left). k .records) e in let q = ap (λ (k : Left). k .room) e in record { taken = omega arith; used = omega arith }

@@ -1,7 +1,7 @@
 -- The cases of a run's answer, and the first text of a run reordered.
 use mathlib.Core.Path.{_≡_, refl, ap, sym, subst, _∙_}
 use mathlib.Core.List.{List, [], _∷_, _++_}
-use mathlib.Core.Bool.{Bool, true, false, cond, _||_, false≢true}
+use mathlib.Core.Bool.{Bool, true, false, cond, _||_}
 use Prim.Native.Nat.{ℕ, _+_, _-_, _≤_}
 use native.Mathlib.Omega.{arith}
 use lib.Dec.{leb, ltb}
@@ -26,6 +26,7 @@ use Rattle.document.specs.Valid.{isUse}
 use Rattle.document.specs.Answer.{visited, readWalked, takenTo, blankTo, refusedAt, upTo, notEnded, nextWalked, nextBegun, readNext, textAtMost}
 use Rattle.document.proofs.Reorder.{visit-reordered}
 use Rattle.document.proofs.Moves.{reordered-depth}
+use Rattle.json.proofs.Truth.{choose-true}
 
 never : _≡_ {A = ℕ} 0 1 → ⊥
 never e = omega arith
@@ -78,10 +79,6 @@ next-taken purpose room run p e h = go (isUse purpose) refl h
     go : (b : Bool) → isUse purpose ≡ b → choose b (λ _. nextBegun purpose room run (blanked run)) (λ _. refusedAt 17 0) ≡ takenTo p e → NextTaken purpose room run p e
     go true u g = begun-taken purpose room run (blanked run) p e u g
     go false u g = refused-not-taken 17 0 e p g
-
-choose-true : {A : Type 0} (b : Bool) (x y : Unit {0} → A) → b ≡ true → choose b x y ≡ x tt
-choose-true true x y e = refl
-choose-true false x y e = absurd (false≢true e)
 
 -- A run that begins with an object is not all blanks.
 begins-with : {t : Tree} {run r : List ℕ} → Leading t run r → (s : List ℕ) × (blanked run ≡ 123 ∷ s)

@@ -17,7 +17,8 @@ use Rattle.document.specs.Schema.{greatestDecimal, greatestInteger, meal
 use Rattle.document.specs.Visit.{Left, recordLess, isEmpty}
 use Rattle.document.specs.Valid.{isAmount, isDuration, isTimeUnit, isText, isDays, isMeal, isUnitFor, ifGiven, every, someObject, validObjects, validDosage, validAtTime, validInSegment, validTimed, validDetail, validObject, validFields, timedRecords, detailRecords, objectRecords}
 use Rattle.document.specs.Spells.{Meaning, Given, Perhaps, FieldsMean}
-use Rattle.document.proofs.Good.{sum, detailText, objectText, givenText, Takes, Good, and-both, and-left, and-right}
+use Rattle.json.proofs.Truth.{and-both, and-left, and-right}
+use Rattle.document.proofs.Good.{sum, detailText, objectText, givenText, Takes, Good}
 use Rattle.document.proofs.Makes.{takes-as, sum-two, sum-none, objects-valid, objects-records, objects-text, some-object, above}
 use Rattle.document.proofs.Sound.{good-free}
 
@@ -364,7 +365,7 @@ perhaps-given s nothing x h = h
 perhaps-given s (one m) x h = h
 perhaps-given s twice x h = h
 
-unit-text : (purpose : ℕ) (u : Option (List ℕ)) → isUnitFor purpose u ≡ true → ifGiven isText u ≡ true
+pub unit-text : (purpose : ℕ) (u : Option (List ℕ)) → isUnitFor purpose u ≡ true → ifGiven isText u ≡ true
 unit-text purpose none v = refl
 unit-text purpose (some u) v = v
 

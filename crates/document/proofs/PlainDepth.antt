@@ -17,7 +17,7 @@ use Rattle.document.specs.Valid.{isDays, isDuration, isTimeUnit, validTi
 use Rattle.document.specs.Visit.{recordsAtMost}
 use Rattle.document.proofs.Parts.{all-nine}
 use Rattle.document.specs.Plain.{field, fieldIf, typed, whole, dosageTree, daysTree, timesTree, segmentsTree, timedTree, detailTree, objectTree, objectsTree, Slot, fieldOf, membersOf, mapped, textTree, dateTree, reserveTree, headSlots, plainTree, timeText, dateText}
-use Rattle.document.proofs.Good.{and-left, and-right}
+use Rattle.json.proofs.Truth.{and-left, and-right}
 
 -- Members and elements no deeper than n.
 member-depth : (name : String) (t : Tree) (ms : Members) (n : ℕ) → depth t ≤ n → depthOfMembers ms ≤ n → depthOfMembers (field name t ms) ≤ n

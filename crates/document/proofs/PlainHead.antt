@@ -18,8 +18,8 @@ use Rattle.document.specs.Visit.{isEmpty}
 use Rattle.document.specs.Valid.{isText, isMeal, isUnitFor, ifGiven, valid, validFields, validDetail, detailRecords}
 use Rattle.document.specs.Spells.{Meaning, Given, Perhaps, meaningOf, meantMembers, Means}
 use Rattle.document.specs.Plain.{Slot, fieldOf, membersOf, mapped, textTree, dateTree, reserveTree, whole, headSlots, detailTree, plainTree, dateText}
-use Rattle.document.proofs.Good.{and-left, and-right}
-use Rattle.document.proofs.Parts.{all-nine}
+use Rattle.json.proofs.Truth.{and-left, and-right}
+use Rattle.document.proofs.Parts.{all-nine, unit-text}
 use Rattle.document.proofs.Written.{whole-means}
 use Rattle.document.proofs.WrittenDates.{date-reads}
 use Rattle.document.proofs.PlainMeans.{detail-means, given-object}
@@ -110,10 +110,6 @@ flag-slot false = tt
 reserved : (b : Bool) → Option·getD (reserve b) false ≡ b
 reserved true = refl
 reserved false = refl
-
-unit-text : (purpose : ℕ) (u : Option (List ℕ)) → isUnitFor purpose u ≡ true → ifGiven isText u ≡ true
-unit-text purpose none v = refl
-unit-text purpose (some u) v = v
 
 abbrev with-reserve : Posology → Bool → Posology
 with-reserve p b = record { dtFrom = p .dtFrom; dtTo = p .dtTo; inRes = b; po = p .po; relMeal = p .relMeal; unit = p .unit; applInstr = p .applInstr; roa = p .roa; moa = p .moa }

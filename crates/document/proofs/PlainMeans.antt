@@ -17,7 +17,7 @@ use Rattle.document.specs.Valid.{isAmount, isDuration, isTimeUnit, climb
 use Rattle.document.specs.Spells.{meaningOf, meantElements, EachMeans, ElementsMean}
 use Rattle.document.specs.Plain as P
 use Rattle.document.specs.Plain.{wholeDigits, dosageTree, daysTree, timesTree, segmentsTree, timedTree, detailTree, objectTree, objectsTree}
-use Rattle.document.proofs.Good.{and-left, and-right}
+use Rattle.json.proofs.Truth.{and-left, and-right}
 use Rattle.document.proofs.Days.{climbs-same, climbs-distinct}
 use Rattle.document.proofs.Written.{whole-means, amount-means}
 use Rattle.document.proofs.WrittenDates.{time-reads}

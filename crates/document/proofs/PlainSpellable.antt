@@ -18,7 +18,7 @@ use Rattle.document.specs.Schema.{mealCodes, sequencesInside, underSingl
 use Rattle.document.specs.Visit.{isEmpty, recordsAtMost}
 use Rattle.document.specs.Valid.{isAmount, isDuration, isTimeUnit, isText, climbs, isDays, every, isMeal, isUnitFor, ifGiven, validDosage, validAtTime, validInSegment, validTimed, validDetail, validObject, validObjects, someObject, validFields, valid, detailRecords}
 use Rattle.document.specs.Plain.{two, clock, timeText, dayText, zoneText, dateText, fieldIf, whole, textTree, dosageTree, daysTree, timesTree, segmentsTree, timedTree, detailTree, objectTree, objectsTree, Slot, fieldOf, membersOf, mapped, dateTree, reserveTree, headSlots}
-use Rattle.document.proofs.Good.{and-left, and-right}
+use Rattle.json.proofs.Truth.{and-left, and-right}
 use Rattle.document.proofs.Parts.{all-nine}
 use Rattle.document.proofs.WrittenDates.{small-day}
 use Rattle.document.proofs.PlainMeans.{duration, unit, amount, lesser}

@@ -8,7 +8,7 @@ use lib.Dec.{leb, ltb}
 use borrow.Author.Tests.{leb-true, lt-ltb, le-ltb}
 use Rattle.json.specs.Rows.{Rows, else, below, look}
 use Rattle.spelling.proofs.Tables.{rowsFrom}
-use Rattle.document.proofs.Good.{and-left, and-right}
+use Rattle.json.proofs.Truth.{and-left, and-right}
 
 -- No bound lies inside.
 abbrev pub flat : {A : Type 0} → ℕ → ℕ → Rows A → Bool

@@ -10,7 +10,7 @@ use borrow.Author.Tests.{leb-true, le-leb}
 use Rattle.json.specs.Rows.{choose}
 use Rattle.document.specs.Posology.{Day}
 use Rattle.document.specs.Date.{isDay, isZone, isSecond, isDate, Behind, two, then, mark, only, clock, alone, seconds, atMinute, timeOf, dayOf, signed, zone, momentOf, bareOr, dateOf}
-use Rattle.document.proofs.Good.{and-both, and-left, and-right}
+use Rattle.json.proofs.Truth.{and-both, and-left, and-right}
 
 -- What holds of what is read, if something is.
 abbrev pub Holds : {A : Type 0} → (A → Type 0) → Option A → Type 0

@@ -6,7 +6,7 @@ use Prim.Native.Nat.{ℕ, zero, suc}
 use lib.Dec.{eqb, eqb·zero-suc, eqb·suc-zero, eqb·suc-suc}
 use borrow.Author.Tests.{eq-eqb, eqb-true}
 use Rattle.document.specs.Lookup.{same}
-use Rattle.document.proofs.Good.{and-both, and-left, and-right}
+use Rattle.json.proofs.Truth.{and-both, and-left, and-right}
 
 pub same-refl : (s : List ℕ) → same s s ≡ true
 same-refl [] = refl

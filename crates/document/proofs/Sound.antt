@@ -21,7 +21,8 @@ use Rattle.document.specs.Schema.{greatestDecimal, Family, aPosology, aD
 use Rattle.document.specs.Visit.{Left, recordLess, roomLess, Outcome, done, refuse, bind, guard, unless, Value, needed, present, optional, fields, opening, body, placeOf, typed, members, whole, millionths, digits, orRefused, chars, each, isEmpty, distinct, decimals, elements, ofNumber, ofString, ofBool, ofObject, ofList, emptyFor, valueOf, entriesOf, valuesOf}
 use Rattle.document.specs.Valid.{every, isAmount}
 use Rattle.document.specs.Spells.{Meaning, Given, Perhaps, FieldsMean, BodyMeans, MembersMean, DigitsMean, CharsMean, EachMeans, ElementsMean, NumberMeans, StringMeans, BoolMeans, ObjectMeans, ListMeans, meaningOf, meantMembers, meantElements}
-use Rattle.document.proofs.Good.{sum, validOf, recordsOf, textOf, Takes, Good, GoodOption, Filled, Made, and-both, and-right}
+use Rattle.json.proofs.Truth.{and-both, and-right}
+use Rattle.document.proofs.Good.{sum, validOf, recordsOf, textOf, Takes, Good, GoodOption, Filled, Made}
 use Rattle.document.proofs.Days.{ascending-climbs, ascending-empty}
 use Rattle.document.proofs.RealDates.{Holds, time-holds, date-holds}
 use Rattle.document.proofs.Makes.{takes-none, takes-then, takes-as, dosage-good, at-time-good, in-segment-good, timed-good, detail-good, object-good, posology-good}

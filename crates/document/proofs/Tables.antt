@@ -1,13 +1,12 @@
 -- A table stands for its posology, and the writer makes its plain text.
 use mathlib.Core.Path.{_≡_, refl, ap, sym, subst, _∙_}
 use mathlib.Core.List.{List, [], _++_}
-use mathlib.Core.Bool.{Bool, true, false, _&&_, false≢true}
+use mathlib.Core.Bool.{true, _&&_}
 use Prim.Native.Nat.{ℕ}
 use lib.Dec.{leb}
 use lib.ListN.{length, take, drop, take-append-drop}
 use lib.Seq.{take-at}
 use borrow.Author.Tests.{leb-true, le-leb}
-use Rattle.json.specs.Rows.{choose}
 use Rattle.document.specs.Lookup.{same}
 use Rattle.document.specs.Posology.{Posology}
 use Rattle.document.specs.Valid.{Valid, Fits, isUse, valid, strings}
@@ -18,7 +17,7 @@ use Rattle.document.specs.Plain.{plain}
 use Rattle.document.specs.Answer.{taken, read}
 use Rattle.document.specs.Write.{write, fitting, isTableOf, readable, greatestRoom}
 use Rattle.document.specs.declared.table.Table.{Table}
-use Rattle.document.proofs.Good.{and-both, and-left, and-right}
+use Rattle.json.proofs.Truth.{and-both, and-left, and-right, choose-true}
 use Rattle.document.proofs.Same.{same-refl, same-equal}
 use Rattle.document.proofs.Spelled.{accepted-spells}
 use Rattle.document.proofs.WordsBack.{words-one}
@@ -33,10 +32,6 @@ is-own-table purpose p behind v f =
 pub own-readable : (purpose : ℕ) (p : Posology) (behind : List ℕ) → valid purpose p ≡ true → Fits greatestRoom p → readable purpose (tableOf p) (strings p ++ behind) ≡ true
 unfolding readable
 own-readable purpose p behind v f = ap (isTableOf purpose (tableOf p) (strings p ++ behind)) (untabled purpose p behind v) ∙ is-own-table purpose p behind v f
-
-choose-true : {A : Type 0} (b : Bool) (x y : Unit {0} → A) → b ≡ true → choose b x y ≡ x tt
-choose-true true x y e = refl
-choose-true false x y e = absurd (false≢true e)
 
 pub own-written : (purpose room : ℕ) (p : Posology) (behind : List ℕ) → Valid purpose p → Fits greatestRoom p → write purpose (tableOf p) (strings p ++ behind) room ≡ fitting room (plain p)
 unfolding write

@@ -1,7 +1,7 @@
 -- An answer's cases: what a text or a run that is taken was walked and visited to, and back.
 use mathlib.Core.Path.{_≡_, refl, ap, _∙_}
 use mathlib.Core.List.{List}
-use mathlib.Core.Bool.{Bool, true, false, false≢true}
+use mathlib.Core.Bool.{Bool, true, false}
 use Prim.Native.Nat.{ℕ, _≤_}
 use native.Mathlib.Omega.{arith}
 use lib.Dec.{leb}
@@ -15,6 +15,7 @@ use Rattle.document.specs.Posology.{Posology}
 use Rattle.document.specs.Visit.{Left, Outcome, done, refuse, visit}
 use Rattle.document.specs.Valid.{isUse}
 use Rattle.document.specs.Answer.{taken, refused, visited, afterWalk, read, textAtMost}
+use Rattle.json.proofs.Truth.{choose-true}
 
 never : _≡_ {A = ℕ} 0 1 → ⊥
 never e = omega arith
@@ -58,7 +59,3 @@ taken-read purpose room text p t =
     ∙ choose-true (leb (length text) textAtMost) _ _ (le-leb (length text) textAtMost (t .short))
     ∙ ap (λ (w : Walked). afterWalk purpose room text w) (t .walked)
     ∙ ap (λ (o : Outcome Posology). visited text o) (t .is)
-  where
-    choose-true : {A : Type 0} (b : Bool) (x y : Unit {0} → A) → b ≡ true → choose b x y ≡ x tt
-    choose-true true x y e = refl
-    choose-true false x y e = absurd (false≢true e)

@@ -20,8 +20,8 @@ use Rattle.document.specs.Words.{allWords}
 use Rattle.document.specs.Untable.{Grown, part, detailNext, textOf, dateOf, mealOf, posologyOf}
 use Rattle.document.specs.declared.table.Date.{Date}
 use Rattle.document.specs.declared.table.Record.{Record}
-use Rattle.document.proofs.Good.{and-left, and-right}
-use Rattle.document.proofs.Parts.{all-nine}
+use Rattle.json.proofs.Truth.{and-left, and-right}
+use Rattle.document.proofs.Parts.{all-nine, unit-text}
 use Rattle.document.proofs.Untables.{joined-append, detail-append, part-back, detail-back}
 
 -- Records in front of others, and how many they are.
@@ -160,10 +160,6 @@ date-back (some (P.moment d s (P.west n))) = refl
 
 pub order-back : (x y : Option P.Date) {from to : Date} → dateCell x ≡ from → dateCell y ≡ to → inOrder (dateOf from) (dateOf to) ≡ inOrder x y
 order-back x y e f = rw (← e, ← f, date-back x, date-back y)
-
-pub unit-text : (purpose : ℕ) (u : Option (List ℕ)) → isUnitFor purpose u ≡ true → ifGiven isText u ≡ true
-unit-text purpose none v = refl
-unit-text purpose (some u) v = v
 
 abbrev built : Option P.Date → Option P.Date → Bool → Detail → Option ℕ → Option (List ℕ) → Option (List ℕ) → Option (List ℕ) → Option (List ℕ) → Posology
 built from to reserve po meal unit instr roa moa = record { dtFrom = from; dtTo = to; inRes = reserve; po = po; relMeal = meal; unit = unit; applInstr = instr; roa = roa; moa = moa }

@@ -15,7 +15,7 @@ use Rattle.document.specs.Table.{dosageRow, timesRows, segmentsRows, tim
 use Rattle.document.specs.Words.{recordWords, allWords}
 use Rattle.document.specs.Untable.{Grown, grown, within, dosageOf, daysOf, timesNext, segmentsNext, timedNext, part, detailNext, objectsNext, andThen}
 use Rattle.document.specs.declared.table.Record.{Record}
-use Rattle.document.proofs.Good.{and-left, and-right}
+use Rattle.json.proofs.Truth.{and-left, and-right}
 use Rattle.document.proofs.DaySets.{set-back}
 
 dosage-back : (d : Dosage) → dosageOf (recordWords (dosageRow d)) ≡ d

@@ -12,7 +12,7 @@ use Rattle.spelling.specs.Utf8.{Utf8}
 use Rattle.spelling.specs.Utf8 as U
 use Rattle.spelling.proofs.Tables.{each}
 use Rattle.document.specs.Utf8.{Within, from, tail, followRows, goOn, wellFormed, isUtf8}
-use Rattle.document.proofs.Good.{and-left, and-right}
+use Rattle.json.proofs.Truth.{and-left, and-right}
 
 -- A byte between two bounds.
 abbrev Bound : ℕ → ℕ → ℕ → Bool → Type 0

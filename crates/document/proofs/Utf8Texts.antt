@@ -15,7 +15,7 @@ use Rattle.spelling.specs.Utf8 as U
 use Rattle.spelling.proofs.Tables.{each}
 use Rattle.spelling.proofs.Encoded.{chars-utf8}
 use Rattle.document.specs.Utf8.{Within, followRows, goOn, wellFormed, isUtf8}
-use Rattle.document.proofs.Good.{and-both}
+use Rattle.json.proofs.Truth.{and-both}
 use Rattle.document.proofs.Sound.{Utf8Tree, Utf8Members, Utf8Elements}
 
 pub is-within : (lo hi b : ℕ) → lo ≤ b → b < hi → within lo hi b ≡ true

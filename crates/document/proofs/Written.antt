@@ -12,7 +12,7 @@ use Rattle.numbers.specs.Number.{carried, negative, exponent, beforePoint, behi
 use Rattle.document.specs.Schema.{integer, decimal}
 use Rattle.document.specs.Spells.{DigitsMean}
 use Rattle.document.specs.Plain.{wholeDigits, fractionDigits, pointed}
-use Rattle.document.proofs.Good.{and-both}
+use Rattle.json.proofs.Truth.{and-both}
 
 -- At most f + 1 digits write n.
 abbrev pub Short : ℕ → ℕ → Type 0

@@ -10,7 +10,7 @@ use borrow.Author.Tests.{leb-true, le-leb, eqb-true, ne-eqb}
 use Rattle.document.specs.Posology.{Day, Zone, east, west, Date, bare, moment}
 use Rattle.document.specs.Date.{among, leap, daysIn, isDay, isZone, isSecond, isDate, isDigit, pair, Behind, two, then, only, clock, seconds, timeOf, dayOf, minutesWest, zone, dateOf}
 use Rattle.document.specs.Plain as P
-use Rattle.document.proofs.Good.{and-both, and-left, and-right}
+use Rattle.json.proofs.Truth.{and-both, and-left, and-right}
 
 then-to : {A B : Type 0} (o : Option A) (a : A) (f : A → Option B) (z : Option B) → o ≡ some a → f a ≡ z → then o f ≡ z
 then-to {A} o a f z e g = ap (λ (q : Option A). then q f) e ∙ g

@@ -10,7 +10,7 @@ use borrow.Author.Tests.{leb-true, ltb-true, lt-ltb, le-leb, eqb-true, eqb-false
 use Rattle.document.specs.Visit.{isEmpty}
 use Rattle.document.specs.Valid.{climbs, isDays}
 use Rattle.document.specs.Table.{daySet}
-use Rattle.document.proofs.Good.{and-left, and-right, and-both}
+use Rattle.json.proofs.Truth.{and-left, and-right, and-both}
 use Rattle.document.proofs.DaySets.{from, halves, from-one}
 
 lower : (least day hi : ℕ) (ds : List ℕ) → least ≤ day → climbs day hi ds ≡ true → climbs least hi ds ≡ true

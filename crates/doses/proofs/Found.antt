@@ -16,7 +16,7 @@ use Rattle.document.specs.Table.{dosageRow, timesRows, segmentsRows, timedRows}
 use Rattle.document.specs.Words.{recordWords, allWords}
 use Rattle.document.specs.declared.table.Record.{Record}
 use Rattle.words.specs.Standing.{belowAt, At, Lies}
-use Rattle.document.proofs.Good.{and-left, and-right}
+use Rattle.json.proofs.Truth.{and-left, and-right}
 use Rattle.doses.proofs.DaySums.{days-sum}
 use Rattle.doses.proofs.Lies.{moved, typesUnder}
 use Rattle.doses.specs.Doses.{DosageAt, simple, fromTo, range, ApplicationsAt, none, more, PlainAt, dosageOnly, times, segments, TimedAt, plain, interval, weekDays, daysOfMonth}

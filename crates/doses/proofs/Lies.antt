@@ -1,7 +1,7 @@
 -- Words that are checked are those of a value: dosages and timed dosages.
 use mathlib.Core.Path.{_≡_, refl, ap, sym, subst}
 use mathlib.Core.List.{List, [], _∷_}
-use mathlib.Core.Bool.{Bool, true, false, cond, _&&_, false≢true}
+use mathlib.Core.Bool.{Bool, true, false, cond}
 use Prim.Native.Nat.{ℕ, _+_}
 use native.Mathlib.Omega.{arith}
 use lib.Dec.{eqb}
@@ -18,13 +18,7 @@ use Rattle.document.specs.declared.table.Record.{Record}
 use Rattle.words.specs.Standing.{belowAt, aAt, bAt, cAt, dAt, At, Lies}
 use Rattle.doses.proofs.DaySums.{days-are}
 use Rattle.doses.specs.Doses.{DosageAt, simple, fromTo, range, ApplicationsAt, none, more, PlainAt, dosageOnly, times, segments, DaysAt, IntervalAt, TimedAt, plain, interval, weekDays, daysOfMonth}
-
-pub both : {a b : Bool} → a ≡ true → b ≡ true → (a && b) ≡ true
-both {a} {b} e f = go a b e f
-  where
-    go : (a b : Bool) → a ≡ true → b ≡ true → (a && b) ≡ true
-    go true b e f = f
-    go false b e f = absurd (false≢true e)
+use Rattle.json.proofs.Truth.{and-both}
 
 pub moved : (ws : List ℕ) (l : List Words) {i j : ℕ} → i ≡ j → Lies ws i l → Lies ws j l
 moved ws l e p = subst (λ n. Lies ws n l) e p
@@ -72,17 +66,17 @@ module _ {ws : List ℕ} where
   unfolding validDosage
   dosage-is {i} (simple p) = record {
     value = P.simple (aAt ws i);
-    valid = both (lt-ltb 0 (aAt ws i) (p .a-least)) (le-leb (aAt ws i) 999999999999 (p .a-most));
+    valid = and-both (lt-ltb 0 (aAt ws i) (p .a-least)) (le-leb (aAt ws i) 999999999999 (p .a-most));
     at = record { inside = p .inside; tag = p .tag; below = omega arith; a = refl; b = omega arith; c = omega arith; d = omega arith };
   }
   dosage-is {i} (fromTo q) = let p = q .row in record {
     value = P.fromTo (aAt ws i) (bAt ws i) (cAt ws i) (dAt ws i);
-    valid = both (both (both (lt-ltb (aAt ws i) (bAt ws i) (q .rises)) (le-leb (bAt ws i) 999999999999 (p .b-most))) (both (le-leb 1 (cAt ws i) (p .c-least)) (le-leb (cAt ws i) 7 (p .c-most)))) (both (le-leb 1 (dAt ws i) (p .d-least)) (le-leb (dAt ws i) 99999 (p .d-most)));
+    valid = and-both (and-both (and-both (lt-ltb (aAt ws i) (bAt ws i) (q .rises)) (le-leb (bAt ws i) 999999999999 (p .b-most))) (and-both (le-leb 1 (cAt ws i) (p .c-least)) (le-leb (cAt ws i) 7 (p .c-most)))) (and-both (le-leb 1 (dAt ws i) (p .d-least)) (le-leb (dAt ws i) 99999 (p .d-most)));
     at = record { inside = p .inside; tag = p .tag; below = omega arith; a = refl; b = refl; c = refl; d = refl };
   }
   dosage-is {i} (range q) = let p = q .row in record {
     value = P.range (aAt ws i) (bAt ws i);
-    valid = both (both (lt-ltb 0 (aAt ws i) (p .a-least)) (lt-ltb (aAt ws i) (bAt ws i) (q .rises))) (le-leb (bAt ws i) 999999999999 (p .b-most));
+    valid = and-both (and-both (lt-ltb 0 (aAt ws i) (p .a-least)) (lt-ltb (aAt ws i) (bAt ws i) (q .rises))) (le-leb (bAt ws i) 999999999999 (p .b-most));
     at = record { inside = p .inside; tag = p .tag; below = omega arith; a = refl; b = refl; c = omega arith; d = omega arith };
   }
 
@@ -95,7 +89,7 @@ module _ {ws : List ℕ} where
       let n : i + 2 ≡ i + 1 + 1 = omega arith in
       record {
         value = P.atTime (d .value) (aAt ws i) ∷ r .value;
-        valid = both (both (d .valid) (le-leb (aAt ws i) 86399 (o .a-most))) (r .valid);
+        valid = and-both (and-both (d .valid) (le-leb (aAt ws i) 86399 (o .a-most))) (r .valid);
         lies = λ k l. (record { inside = o .inside; tag = o .tag; below = omega arith; a = refl; b = omega arith; c = omega arith; d = omega arith }, (d .at, moved ws (allWords (timesRows (r .value) k)) n (r .lies k l)));
         count = omega (arith, r .count);
       }
@@ -109,7 +103,7 @@ module _ {ws : List ℕ} where
       let n : i + 2 ≡ i + 1 + 1 = omega arith in
       record {
         value = P.inSegment (d .value) (aAt ws i) ∷ r .value;
-        valid = both (both (d .valid) (both (le-leb 1 (aAt ws i) (o .a-least)) (le-leb (aAt ws i) 4 (o .a-most)))) (r .valid);
+        valid = and-both (and-both (d .valid) (and-both (le-leb 1 (aAt ws i) (o .a-least)) (le-leb (aAt ws i) 4 (o .a-most)))) (r .valid);
         lies = λ k l. (record { inside = o .inside; tag = o .tag; below = omega arith; a = refl; b = omega arith; c = omega arith; d = omega arith }, (d .at, moved ws (allWords (segmentsRows (r .value) k)) n (r .lies k l)));
         count = omega (arith, r .count);
       }
@@ -122,7 +116,7 @@ module _ {ws : List ℕ} where
       let n : i + 2 ≡ i + 1 + 1 = omega arith in
       record {
         value = P.dosageOnly (d .value);
-        valid = both e (d .valid);
+        valid = and-both e (d .valid);
         lies = λ k l. (record { inside = o .inside; tag = o .tag; below = omega arith; a = omega arith; b = omega arith; c = omega arith; d = omega arith }, (d .at, moved ws (allWords k) n l));
         count = omega arith;
       }
@@ -132,7 +126,7 @@ module _ {ws : List ℕ} where
       let n : i + (1 + (length (r .value) + length (r .value))) ≡ i + 1 + belowAt ws i = omega (arith, r .count) in
       record {
         value = P.times (r .value);
-        valid = both f (r .valid);
+        valid = and-both f (r .valid);
         lies = λ k l. (record { inside = o .inside; tag = o .tag; below = omega (arith, r .count); a = omega arith; b = omega arith; c = omega arith; d = omega arith }, r .lies k (moved ws (allWords k) n l));
         count = omega (arith, r .count);
       }
@@ -142,7 +136,7 @@ module _ {ws : List ℕ} where
       let n : i + (1 + (length (r .value) + length (r .value))) ≡ i + 1 + belowAt ws i = omega (arith, r .count) in
       record {
         value = P.daySegments (r .value);
-        valid = both g (r .valid);
+        valid = and-both g (r .valid);
         lies = λ k l. (record { inside = o .inside; tag = o .tag; below = omega (arith, r .count); a = omega arith; b = omega arith; c = omega arith; d = omega arith }, r .lies k (moved ws (allWords k) n l));
         count = omega (arith, r .count);
       }
@@ -155,7 +149,7 @@ module _ {ws : List ℕ} where
       let n : i + 2 ≡ i + 1 + 1 = omega arith in
       record {
         value = P.interval (d .value) (aAt ws i) (bAt ws i);
-        valid = both (both (both e (d .valid)) (both (le-leb 1 (aAt ws i) (o .a-least)) (le-leb (aAt ws i) 99999 (o .a-most)))) (both (le-leb 1 (bAt ws i) (o .b-least)) (le-leb (bAt ws i) 7 (o .b-most)));
+        valid = and-both (and-both (and-both e (d .valid)) (and-both (le-leb 1 (aAt ws i) (o .a-least)) (le-leb (aAt ws i) 99999 (o .a-most)))) (and-both (le-leb 1 (bAt ws i) (o .b-least)) (le-leb (bAt ws i) 7 (o .b-most)));
         lies = λ k l. (record { inside = o .inside; tag = o .tag; below = omega arith; a = refl; b = refl; c = omega arith; d = omega arith }, (d .at, moved ws (allWords k) n l));
         count = omega arith;
       }
@@ -169,7 +163,7 @@ module _ {ws : List ℕ} where
       let n : i + (1 + timedRecords (t .value)) ≡ i + 1 + timedRecords (t .value) = omega arith in
       record {
         value = P.weekDays (s .value) (t .value);
-        valid = both (both e (s .valid)) (t .valid);
+        valid = and-both (and-both e (s .valid)) (t .valid);
         lies = λ k l. (record { inside = o .inside; tag = o .tag; below = omega (arith, p .nested, t .count); a = sym (s .sum); b = omega arith; c = omega arith; d = omega arith }, t .lies k (moved ws (allWords k) n l));
         count = omega (arith, p .nested, t .count);
       }
@@ -183,7 +177,7 @@ module _ {ws : List ℕ} where
       let n : i + (1 + timedRecords (t .value)) ≡ i + 1 + timedRecords (t .value) = omega arith in
       record {
         value = P.daysOfMonth (s .value) (t .value);
-        valid = both (both e (s .valid)) (t .valid);
+        valid = and-both (and-both e (s .valid)) (t .valid);
         lies = λ k l. (record { inside = o .inside; tag = o .tag; below = omega (arith, p .nested, t .count); a = sym (s .sum); b = omega arith; c = omega arith; d = omega arith }, t .lies k (moved ws (allWords k) n l));
         count = omega (arith, p .nested, t .count);
       }

@@ -14,7 +14,7 @@ use Rattle.json.specs.Rows.{choose}
 use Rattle.document.specs.Date.{among}
 use Rattle.document.specs.Table.{daySet}
 use Rattle.document.specs.Visit.{distinct, inserted, ascending}
-use Rattle.document.proofs.Good.{and-left, and-right}
+use Rattle.json.proofs.Truth.{and-left, and-right}
 use Rattle.document.proofs.Same.{eqb-sym}
 use Rattle.fields.specs.DaySets.{bits}
 

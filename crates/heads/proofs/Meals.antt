@@ -16,7 +16,7 @@ use Rattle.document.specs.Lookup.{Found, one}
 use Rattle.document.specs.Schema.{aNumber, integer}
 use Rattle.document.specs.Visit.{Left, Outcome, done, refuse, present, whole, Value, valueOf, optional}
 use Rattle.document.specs.At.{Slot, empty, filled}
-use Rattle.document.proofs.Good.{and-right}
+use Rattle.json.proofs.Truth.{and-right}
 
 abbrev value : Outcome (Option ℕ) → Option ℕ
 value (done x l) = x

@@ -17,7 +17,7 @@ use Rattle.document.specs.Visit.{recordsAtMost}
 use Rattle.document.specs.Valid.{isAmount, isDuration, isTimeUnit, isText, isDays, every, validDosage, validAtTime, validInSegment, validTimed, someObject, validDetail, validObject, validObjects, timedRecords, detailRecords, objectRecords, objectsRecords, ifGiven, isMeal, isUnitFor, validFields, valid, detailStrings, objectStrings, objectsStrings, strings}
 use Rattle.document.specs.Table.{noRecord, dateCell, textCell, lengthOf, dosageCell, daySet, timesRows, segmentsRows, timedRows, detailRows, objectRows, objectsRows, filled, headOf, tableOf, recordsInTable}
 use Rattle.document.specs.declared.table.Record.{Record}
-use Rattle.document.proofs.Good.{and-left, and-right}
+use Rattle.json.proofs.Truth.{and-left, and-right}
 use Rattle.document.proofs.Parts.{all-nine}
 use Rattle.document.proofs.WrittenDates.{small-day}
 use Rattle.document.proofs.Untables.{joined-append, detail-append}

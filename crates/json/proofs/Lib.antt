@@ -3,3 +3,4 @@ pub mod Rows
 pub mod Places
 pub mod Passes
 pub mod Moves
+pub mod Truth

@@ -8,7 +8,7 @@ use lib.Dec.{eqb, leb, ltb}
 use native.Mathlib.Omega.{arith}
 use borrow.Author.Tests.{eqb-true, eq-eqb, ne-eqb, leb-true, ltb-true}
 use Rattle.document.specs.Lookup.{same}
-use Rattle.document.proofs.Good.{and-left, and-right}
+use Rattle.json.proofs.Truth.{and-left, and-right}
 use Rattle.document.proofs.Same.{same-refl, same-equal}
 use Rattle.names.specs.Names.{names, nameAt, indexIn, indexOf, pack, headOf, tailOf, Bytes, packedIn, shortIndex, Packs}
 use Rattle.names.specs.declared.Packed.{Packed}

@@ -15,7 +15,7 @@ use Rattle.spelling.proofs.Moved.{members-in}
 use Rattle.document.specs.Lookup.{Entry, Found, nothing, same, has, find, unknown}
 use Rattle.document.specs.Visit.{Value, entriesOf}
 use Rattle.document.specs.At.{At, Slot, empty, filled}
-use Rattle.document.proofs.Good.{and-left, and-right}
+use Rattle.json.proofs.Truth.{and-left, and-right}
 use Rattle.names.specs.Names.{nameAt, indexOf, membersIn, Once, rowNames, isIn, isRow, stands, standingOf, Tells}
 use Rattle.names.specs.declared.Unknown.{Unknown}
 use Rattle.names.proofs.Numbered.{named-same, same-named}

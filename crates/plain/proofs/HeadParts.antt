@@ -10,7 +10,7 @@ use Rattle.document.specs.Posology.{Day, moment}
 use Rattle.document.specs.Date.{isDay, isZone, isSecond, isDate}
 use Rattle.document.specs.Untable.{zoneOf}
 use Rattle.document.specs.Plain.{two, clock, timeText, dayText, zoneText}
-use Rattle.document.proofs.Good.{and-left, and-right}
+use Rattle.json.proofs.Truth.{and-left, and-right}
 use Rattle.document.proofs.WrittenDates.{small-day}
 
 pub day-twos : (y m d : ℕ) (k : List ℕ) → y ≤ 9999 → m ≤ 99 → d ≤ 99

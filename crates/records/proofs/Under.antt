@@ -10,16 +10,12 @@ use lib.ListN.{getD}
 use Rattle.document.specs.Date.{among}
 use Rattle.document.specs.Schema.{underCyclic}
 use Rattle.records.specs.Under.{typesUnder}
+use Rattle.json.proofs.Truth.{and-left, and-right}
 
 -- A test of every number below one, and what it says of each.
 abbrev all-below : ℕ → (ℕ → Bool) → Bool
 all-below zero f = true
 all-below (suc n) f = f n && all-below n f
-
-both : (a b : Bool) → a && b ≡ true → (a ≡ true) × (b ≡ true)
-both true true h = (refl, refl)
-both true false h = absurd (false≢true h)
-both false b h = absurd (false≢true h)
 
 last-or-below : (t : Bool) (n : ℕ) (f : ℕ → Bool) (k : ℕ) → f n ≡ true → (k < n → f k ≡ true) → k < suc n → eqb k n ≡ t → f k ≡ true
 last-or-below true n f k h g b e = ap f (eqb-true k n e) ∙ h
@@ -28,8 +24,7 @@ last-or-below false n f k h g b e = g (omega (arith, eqb-false k n e))
 below : (n : ℕ) (f : ℕ → Bool) → all-below n f ≡ true → (k : ℕ) → k < n → f k ≡ true
 below zero f h k b = let bad : ⊥ = omega arith in absurd bad
 below (suc n) f h k b =
-    let x = both (f n) (all-below n f) h in
-    last-or-below (eqb k n) n f k (x .0) (below n f (x .1) k) b refl
+    last-or-below (eqb k n) n f k (and-left (f n) (all-below n f) h) (below n f (and-right (f n) (all-below n f) h) k) b refl
 
 abbrev same : Bool → Bool → Bool
 same true b = b
@@ -64,15 +59,14 @@ within lo hi (t ∷ ts) = (leb lo t && leb t hi) && within lo hi ts
 
 first-or-behind : (b : Bool) (lo hi k t : ℕ) (rest : Bool) → leb lo t && leb t hi ≡ true → (rest ≡ true → (lo ≤ k) × (k ≤ hi)) → b || rest ≡ true → eqb k t ≡ b → (lo ≤ k) × (k ≤ hi)
 first-or-behind true lo hi k t rest h g a e =
-    let x = both (leb lo t) (leb t hi) h in
-    (omega (arith, eqb-true k t e, leb-true lo t (x .0)), omega (arith, eqb-true k t e, leb-true t hi (x .1)))
+    (omega (arith, eqb-true k t e, leb-true lo t (and-left (leb lo t) (leb t hi) h)), omega (arith, eqb-true k t e, leb-true t hi (and-right (leb lo t) (leb t hi) h)))
 first-or-behind false lo hi k t rest h g a e = g a
 
 among-within : (lo hi k : ℕ) (ts : List ℕ) → within lo hi ts ≡ true → among k ts ≡ true → (lo ≤ k) × (k ≤ hi)
 among-within lo hi k [] h a = absurd (false≢true a)
 among-within lo hi k (t ∷ ts) h a =
-    let x = both (leb lo t && leb t hi) (within lo hi ts) h in
-    first-or-behind (eqb k t) lo hi k t (among k ts) (x .0) (among-within lo hi k ts (x .1)) a refl
+    let first = leb lo t && leb t hi in
+    first-or-behind (eqb k t) lo hi k t (among k ts) (and-left first (within lo hi ts) h) (among-within lo hi k ts (and-right first (within lo hi ts) h)) a refl
 
 within-either : (lo hi : ℕ) (b : Bool) (ts us : List ℕ) → within lo hi ts ≡ true → within lo hi us ≡ true → within lo hi (cond b ts us) ≡ true
 within-either lo hi true ts us h k = h

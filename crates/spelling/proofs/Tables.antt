@@ -2,11 +2,12 @@
 use Prim.Native.Nat.{ℕ, _<_, _≤_}
 use mathlib.Core.Path.{_≡_, refl}
 use mathlib.Core.List.{List, [], _∷_}
-use mathlib.Core.Bool.{Bool, true, false, cond, _&&_, false≢true}
+use mathlib.Core.Bool.{Bool, true, false, cond, _&&_}
 use lib.Dec.{ltb}
 use borrow.Author.Tests.{ltb-true, ltb-false, lt-ltb, le-ltb}
 use native.Mathlib.Omega.{arith}
 use Rattle.json.specs.Rows.{Rows, else, below, look, choose}
+use Rattle.json.proofs.Truth.{and-left, and-right}
 
 -- A choice has what its branches have, each where the test sends to it.
 pub choose-by : {A : Type 0} (P : A → Type 0) (x : Bool) (f g : Unit {0} → A) → (x ≡ true → P (f tt)) → (x ≡ false → P (g tt)) → P (choose x f g)
@@ -48,14 +49,6 @@ merge R n a later (below m c rows) = R a c && choose (ltb n m) (λ _. later (bel
 unfoldable pub always : {A B : Type 0} → (A → B → Bool) → Rows A → Rows B → Bool
 always R (else a) rows = rowsElse R a rows
 always R (below n a more) rows = merge R n a (λ others. always R more others) rows
-
-and-left : (x y : Bool) → x && y ≡ true → x ≡ true
-and-left true y e = refl
-and-left false y e = absurd (false≢true e)
-
-and-right : (x y : Bool) → x && y ≡ true → y ≡ true
-and-right true y e = e
-and-right false y e = absurd (false≢true e)
 
 module _ {A B : Type 0} (R : A → B → Bool) where
   else-sound : (b : ℕ) (a : A) (rows : Rows B) → rowsElse R a rows ≡ true → R a (look b rows) ≡ true

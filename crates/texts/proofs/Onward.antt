@@ -11,7 +11,7 @@ use Rattle.json.specs.Tree.{Place, placeIn}
 use Rattle.json.specs.Walk.{Walked, end, refused2, refused3, firstObject, oneObject}
 use Rattle.document.specs.Answer.{textAtMost, Read, refused, afterWalk, readWalked, read, ReadNext, blankTo, refusedAt, upTo, nextWalked, nextBegun, readNext}
 use Rattle.document.specs.Valid.{isUse}
-use Rattle.texts.specs.Texts.{oneWalked, oneText, notEnded, firstWalked, firstBegun, firstText}
+use Rattle.texts.specs.Texts.{oneWalked, oneText, firstWalked, firstBegun, firstText}
 use Rattle.texts.specs.declared.OneText.{OneText}
 use Rattle.texts.specs.declared.OneText.the-variants as O
 use Rattle.texts.specs.declared.FirstText.{FirstText}

@@ -1,15 +1,17 @@
 // Runs the reader over outside vectors on standard input, a line each: `read` or `run`, the use, the text room, and the bytes in hexadecimal.
 // Answers `refused NUMBER PLACE`, `blank LENGTH`, or `ok`, for a run the end, then the number of records, the plain text and the strings in hexadecimal;
-// and says so where the plain text does not read back to itself.
+// and says so where the plain text does not read back to itself. A line `walk` or `walkrun` is of the walk alone: `2 PLACE`, `3 PLACE` or `taken`.
 use document::table::Answer;
 use document::table::NextAnswer;
 use document::table::Table;
 use document::table::Writing;
 use scan::byte;
+use walk::End;
 
-// Of a line: the word that it is in, whether it is of a run, its numbers, its bytes so far, and the digit before the next one.
+// Of a line: the word that it is in, whether it is of the walk alone, and of a run, its numbers, its bytes so far, and the digit before the next one.
 struct Line {
     word: u64,
+    walk: bool,
     run: bool,
     purpose: u64,
     room: usize,
@@ -21,6 +23,7 @@ struct Line {
 fn fresh() -> Line {
     Line {
         word: 0,
+        walk: false,
         run: false,
         purpose: 0,
         room: 0,
@@ -145,10 +148,33 @@ fn answer_run(run: &[u8], purpose: u64, strings: &mut [u8]) {
     }
 }
 
+fn say_walked(end: End) {
+    match end {
+        End::At(_) => {
+            io::write_all(1, b"taken");
+        }
+        End::Bad(p) => say(b"2 ", p as u64),
+        End::Deep(p) => say(b"3 ", p as u64),
+    }
+    io::write_all(1, b"\n");
+}
+
+fn answer_walk(text: &[u8], run: bool) {
+    if run {
+        say_walked(walk::first_object(text));
+    } else {
+        say_walked(walk::one_object(text));
+    }
+}
+
 fn answer(line: Line, text: &[u8], strings: &mut [u8]) {
     let n = line.bytes;
     let room = line.room;
     if text.len() < n {
+        return;
+    }
+    if line.walk {
+        answer_walk(&text[..n], line.run);
         return;
     }
     if strings.len() < room {
@@ -175,6 +201,9 @@ fn with_word(line: Line, b: u8) -> Line {
     if line.word == 0 {
         if b == b'u' {
             next.run = true;
+        }
+        if b == b'w' {
+            next.walk = true;
         }
         return next;
     }

@@ -17,7 +17,7 @@ use Rattle.document.specs.Table.{dosageRow, timesRows, segmentsRows, timedRows}
 use Rattle.document.specs.Words.{recordWords, allWords}
 use Rattle.document.specs.Plain.{field, typed, dosageTree, daysTree, timesTree, segmentsTree, timedTree}
 use Rattle.document.specs.declared.table.Record.{Record}
-use Rattle.document.proofs.Good.{and-left, and-right}
+use Rattle.json.proofs.Truth.{and-left, and-right}
 use Rattle.document.proofs.DaySets.{set-back}
 use Rattle.words.specs.Standing.{At, Lies}
 use Rattle.plain.specs.Prints.{DosagePrints, simple, fromTo, range, atTime, inSegment, ApplicationsPrint, none, more, PlainPrints, dosageOnly, times, segments, TimedPrints, plain, weekDays, daysOfMonth, interval}

@@ -16,7 +16,7 @@ use Rattle.document.specs.Table.{detailRows, objectRows, objectsRows}
 use Rattle.document.specs.Words.{allWords}
 use Rattle.document.specs.Plain.{textTree, field, typed, detailTree, objectTree, objectsTree}
 use Rattle.document.specs.declared.table.Record.{Record}
-use Rattle.document.proofs.Good.{and-left, and-right}
+use Rattle.json.proofs.Truth.{and-left, and-right}
 use Rattle.document.proofs.Untables.{joined-append}
 use Rattle.words.specs.Standing.{belowAt, Lies}
 use Rattle.checking.proofs.FoundDetail.{object-found}
