@@ -2,14 +2,16 @@
 use Prim.Native.Nat.{ℕ, _+_, _*_, _-_}
 use mathlib.Core.Path.{_≡_, refl, ap, sym, _∙_}
 use mathlib.Core.List.{List, [], _∷_, _++_}
+use mathlib.Core.Bool.{Bool, true, false, cond}
 use native.Mathlib.Omega.{arith}
 use lib.ListN.{length}
 use Rattle.document.specs.Posology as P
+use Rattle.document.specs.Schema.{OfFamily}
 use Rattle.document.specs.Valid.{timedRecords}
 use Rattle.document.specs.Table.{daySet, dosageRow, timesRows, segmentsRows, timedRows}
 use Rattle.document.specs.Visit.{Outcome}
 use Rattle.document.specs.Words.{words, row, rows, allWords}
-use Rattle.visits.specs.Visiting.{RowsOf, Did}
+use Rattle.visits.specs.Visiting.{RowsOf, Did, anApplication, application, applicationsRows}
 use Rattle.records.specs.Records.{more}
 use Rattle.records.specs.declared.rows.Used.{Used}
 use Rattle.visits.proofs.Rowed.{count-below}
@@ -32,18 +34,25 @@ timed-length (P.weekDays ds td) = omega (arith, timed-length td)
 timed-length (P.daysOfMonth ds td) = omega (arith, timed-length td)
 timed-length (P.interval d du unit) = refl
 
--- An application behind those before it.
-pub times-join : (t : P.AtTime) (ts : List P.AtTime) (c c′ : List ℕ) → c ≡ rows (allWords (timesRows (t ∷ []) [])) → c′ ≡ rows (allWords (timesRows ts []))
-    → c ++ c′ ≡ rows (allWords (timesRows (t ∷ ts) []))
-times-join (P.atTime d dt) ts c c′ e e′ = ap (λ x. x ++ c′) e ∙ ap (λ x. rows (allWords (timesRows (P.atTime d dt ∷ []) [])) ++ x) e′
+-- No application, and one before others.
+pub no-application : (timed : Bool) → [] ≡ rows (allWords (applicationsRows timed []))
+no-application true = refl
+no-application false = refl
 
-pub segments-join : (s : P.InSegment) (ss : List P.InSegment) (c c′ : List ℕ) → c ≡ rows (allWords (segmentsRows (s ∷ []) [])) → c′ ≡ rows (allWords (segmentsRows ss []))
-    → c ++ c′ ≡ rows (allWords (segmentsRows (s ∷ ss) []))
-segments-join (P.inSegment d s) ss c c′ e e′ = ap (λ x. x ++ c′) e ∙ ap (λ x. rows (allWords (segmentsRows (P.inSegment d s ∷ []) [])) ++ x) e′
+pub applications-join : (timed : Bool) (a : OfFamily (anApplication timed)) (as′ : List (OfFamily (anApplication timed))) (c c′ : List ℕ)
+    → c ≡ rows (allWords (applicationsRows timed (a ∷ []))) → c′ ≡ rows (allWords (applicationsRows timed as′)) → c ++ c′ ≡ rows (allWords (applicationsRows timed (a ∷ as′)))
+applications-join true (P.atTime d dt) ts c c′ e e′ = ap (λ x. x ++ c′) e ∙ ap (λ x. rows (allWords (timesRows (P.atTime d dt ∷ []) [])) ++ x) e′
+applications-join false (P.inSegment d s) ss c c′ e e′ = ap (λ x. x ++ c′) e ∙ ap (λ x. rows (allWords (segmentsRows (P.inSegment d s ∷ []) [])) ++ x) e′
 
 -- A record in front: the number of those below it, and their words.
 pub row-above : (t a b c d : ℕ) {n n′ : ℕ} {k k′ : List ℕ} → n ≡ n′ → k ≡ k′ → row (words n t a b c d) k ≡ row (words n′ t a b c d) k′
 row-above t a b c d {n′ = n′} {k} e e′ = ap (λ n. row (words n t a b c d) k) e ∙ ap (λ k. row (words n′ t a b c d) k) e′
+
+-- An application, its dosage below it.
+pub application-rows : (timed : Bool) (d : P.Dosage) (a : ℕ) {tag n : ℕ} {k : List ℕ} → tag ≡ cond timed 17 18 → n ≡ 1 → k ≡ rows (allWords (dosageRow d ∷ []))
+    → row (words n tag a 0 0 0) k ≡ rows (allWords (applicationsRows timed (application timed d a ∷ [])))
+application-rows true d a {n = n} {k} t e e′ = ap (λ t. row (words n t a 0 0 0) k) t ∙ row-above 17 a 0 0 0 e e′
+application-rows false d a {n = n} {k} t e e′ = ap (λ t. row (words n t a 0 0 0) k) t ∙ row-above 18 a 0 0 0 e e′
 
 -- How many records are below one, by the words of what was done there.
 pub counted : {B : Type 0} {room : ℕ} (u : Used) {v : Used} {before mid : List ℕ} {below : RowsOf B} {o : Outcome B} (d : Did room (more u) before below o v mid) (n : ℕ) {c : List ℕ}

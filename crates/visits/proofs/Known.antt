@@ -1,15 +1,18 @@
 -- The names and the fields of each object's rows, by the numbers of the names.
-use Prim.Native.Nat.{ℕ}
-use mathlib.Core.Path.{_≡_, refl}
+use Prim.Native.Nat.{ℕ, _<_}
+use mathlib.Core.Path.{_≡_, refl, ap, sym}
 use mathlib.Core.List.{List, [], _∷_}
+use mathlib.Core.Bool.{Bool, true, false, cond}
+use native.Mathlib.Omega.{arith}
 use lib.Dec.{ltb}
 use Rattle.json.specs.Tree.{Place}
 use Rattle.document.specs.Bytes.{bytes}
 use Rattle.document.specs.Posology as P
 use Rattle.document.specs.Lookup.{Entry, find}
-use Rattle.document.specs.Schema.{aTimed, aDosage, anAtTime, anInSegment, integer, decimal, aNumber, aString, anObject, aList, time, days, any-objects, underDays, rowsOf, dosageOnlyRows, timesRows, daySegmentsRows, weekDaysRows, daysOfMonthRows, intervalRows, simpleRows, fromToRows, rangeRows, atTimeRows, inSegmentRows}
+use Rattle.document.specs.Schema.{aTimed, aDosage, anAtTime, anInSegment, integer, decimal, aNumber, aString, anObject, aList, time, days, any-objects, underDays, rowsOf, typesOf, dosageOnlyRows, timesRows, daySegmentsRows, weekDaysRows, daysOfMonthRows, intervalRows, simpleRows, fromToRows, rangeRows, atTimeRows, inSegmentRows}
 use Rattle.document.specs.Visit.{Left, done, bind, guard, needed, fields, Value}
-use Rattle.names.specs.Names.{names, nameAt}
+use Rattle.names.specs.Names.{names, nameAt, rowNames, isRow}
+use Rattle.visits.specs.Visiting.{anApplication, application, ownField}
 use Rattle.visits.proofs.Bodies.{Known}
 
 -- Dosages
@@ -26,13 +29,22 @@ unfolding rowsOf rangeRows nameAt names
 range-known = record { counted = refl; named = refl }
 
 -- Applications
-pub at-time-known : Known anAtTime 0 [] (8 ∷ 23 ∷ [])
-unfolding rowsOf atTimeRows nameAt names
-at-time-known = record { counted = refl; named = refl }
+pub application-plain : (timed : Bool) → typesOf (anApplication timed) ≡ 0
+application-plain true = refl
+application-plain false = refl
 
-pub in-segment-known : Known anInSegment 0 [] (8 ∷ 24 ∷ [])
-unfolding rowsOf inSegmentRows nameAt names
-in-segment-known = record { counted = refl; named = refl }
+pub application-row : (timed : Bool) {own : ℕ} → own ≡ cond timed 23 24 → isRow (8 ∷ own ∷ []) ≡ true
+application-row true e = ap (λ k. isRow (8 ∷ k ∷ [])) e
+application-row false e = ap (λ k. isRow (8 ∷ k ∷ [])) e
+
+pub own-small : (timed : Bool) {own : ℕ} → own ≡ cond timed 23 24 → own < 33
+own-small true e = omega (arith, e)
+own-small false e = omega (arith, e)
+
+pub application-known : (timed : Bool) {own : ℕ} → own ≡ cond timed 23 24 → Known (anApplication timed) 0 [] (8 ∷ own ∷ [])
+unfolding rowsOf atTimeRows inSegmentRows nameAt names
+application-known true e = record { counted = refl; named = ap (λ k. rowNames (8 ∷ k ∷ [])) e }
+application-known false e = record { counted = refl; named = ap (λ k. rowNames (8 ∷ k ∷ [])) e }
 
 -- Timed dosages
 module _ (ts : List ℕ) where
@@ -84,21 +96,16 @@ module _ (p : Place) (es : List (Entry Value)) (l : Left) where
   unfolding rowsOf rangeRows nameAt names
   range-fields = refl
 
-  pub at-time-fields :
-      fields (rowsOf anAtTime 0) p es l
+  pub application-fields : (timed : Bool) {own : ℕ} → own ≡ cond timed 23 24
+      → fields (rowsOf (anApplication timed) 0) p es l
       ≡ (bind (needed (anObject aDosage) p (find (nameAt 8) es) l) λ d l₁.
-      bind (needed (aString time) p (find (nameAt 23) es) l₁) λ dt l₂.
-      done (P.atTime d dt) l₂)
-  unfolding rowsOf atTimeRows nameAt names
-  at-time-fields = refl
-
-  pub in-segment-fields :
-      fields (rowsOf anInSegment 0) p es l
-      ≡ (bind (needed (anObject aDosage) p (find (nameAt 8) es) l) λ d l₁.
-      bind (needed (aNumber (integer 1 4)) p (find (nameAt 24) es) l₁) λ s l₂.
-      done (P.inSegment d s) l₂)
-  unfolding rowsOf inSegmentRows nameAt names
-  in-segment-fields = refl
+      bind (ownField timed p (find (nameAt own) es) l₁) λ n l₂.
+      done (application timed d n) l₂)
+  unfolding rowsOf atTimeRows inSegmentRows nameAt names
+  application-fields true e =
+      ap (λ k. bind (needed (anObject aDosage) p (find (nameAt 8) es) l) λ d l₁. bind (ownField true p (find (nameAt k) es) l₁) λ n l₂. done (P.atTime d n) l₂) (sym e)
+  application-fields false e =
+      ap (λ k. bind (needed (anObject aDosage) p (find (nameAt 8) es) l) λ d l₁. bind (ownField false p (find (nameAt k) es) l₁) λ n l₂. done (P.inSegment d n) l₂) (sym e)
 
   module _ (ts : List ℕ) where
     pub dosage-only-fields : fields (rowsOf (aTimed ts) 1) p es l ≡ (bind (needed (anObject aDosage) p (find (nameAt 8) es) l) λ d l₁. done (P.dosageOnly d) l₁)

@@ -2,7 +2,7 @@
 use Prim.Native.Nat.{ℕ, _+_, _*_, _-_, _<_, _≤_}
 use mathlib.Core.Path.{_≡_}
 use mathlib.Core.List.{List, [], _∷_, _++_}
-use mathlib.Core.Bool.{true, false}
+use mathlib.Core.Bool.{Bool, true, false}
 use lib.ListN.{length, drop}
 use lib.Seq.{sets}
 use Rattle.json.specs.Tree.{Place, object, list, Members, Elements}
@@ -10,14 +10,16 @@ use Rattle.moving.specs.Read.{decoded}
 use Rattle.document.specs.Bytes.{bytes}
 use Rattle.document.specs.Posology as P
 use Rattle.document.specs.Lookup.{Found, Entry}
-use Rattle.document.specs.Schema.{Family, aTimed, OfFamily, anObject}
+use Rattle.document.specs.Schema.{Family, aTimed, anAtTime, anInSegment, OfFamily, anObject, aString, aNumber, time, integer}
 use Rattle.document.specs.Visit.{Left, Outcome, done, Value, entriesOf, valuesOf, needed, members, body, each}
 use Rattle.document.specs.Table.{timesRows, segmentsRows, timedRows, detailRows, dosageRow}
 use Rattle.document.specs.Valid.{detailRecords, objectsRecords, detailStrings, objectStrings, objectsStrings}
 use Rattle.document.specs.Words.{words, row, rows, allWords}
 use Rattle.document.specs.At.{At, Slot}
 use Rattle.names.specs.Names.{Once}
-use Rattle.fields.specs.Fields.{Refuses}
+use Rattle.document.specs.declared.table.Record.{Record}
+use Rattle.fields.specs.Fields.{Refuses, Reads}
+use Rattle.fields.specs.declared.field.Field.{Field}
 use Rattle.records.specs.Under.{typesUnder}
 use Rattle.records.specs.declared.rows.Used.{Used}
 use Rattle.records.specs.declared.rows.Visit.{Visit}
@@ -58,17 +60,32 @@ Visited text room u before rowsOf o r after = VisitedIn text room u before (λ _
 abbrev pub DosageRows : RowsOf P.Dosage
 DosageRows d at chunk = chunk ≡ rows (allWords (dosageRow d ∷ []))
 
-abbrev pub TimesRows : RowsOf (List P.AtTime)
-TimesRows ts at chunk = chunk ≡ rows (allWords (timesRows ts []))
+-- An application: at a time where `timed`, else in a segment of the day.
+abbrev pub anApplication : Bool → Family
+anApplication true = anAtTime
+anApplication false = anInSegment
 
-abbrev pub SegmentsRows : RowsOf (List P.InSegment)
-SegmentsRows ss at chunk = chunk ≡ rows (allWords (segmentsRows ss []))
+abbrev pub application : (timed : Bool) → P.Dosage → ℕ → OfFamily (anApplication timed)
+application true d dt = P.atTime d dt
+application false d s = P.inSegment d s
 
-abbrev pub AtTimeRows : RowsOf P.AtTime
-AtTimeRows t at chunk = chunk ≡ rows (allWords (timesRows (t ∷ []) []))
+abbrev pub applicationsRows : (timed : Bool) → List (OfFamily (anApplication timed)) → List Record
+applicationsRows true ts = timesRows ts []
+applicationsRows false ss = segmentsRows ss []
 
-abbrev pub InSegmentRows : RowsOf P.InSegment
-InSegmentRows s at chunk = chunk ≡ rows (allWords (segmentsRows (s ∷ []) []))
+abbrev pub ApplicationsRows : (timed : Bool) → RowsOf (List (OfFamily (anApplication timed)))
+ApplicationsRows timed as′ at chunk = chunk ≡ rows (allWords (applicationsRows timed as′))
+
+abbrev pub ApplicationRows : (timed : Bool) → RowsOf (OfFamily (anApplication timed))
+ApplicationRows timed a at chunk = ApplicationsRows timed (a ∷ []) at chunk
+
+-- The field that only one of them has: dt, or s.
+abbrev pub ownField : Bool → Place → Found Value → Left → Outcome ℕ
+ownField true p f l = needed (aString time) p f l
+ownField false p f l = needed (aNumber (integer 1 4)) p f l
+
+abbrev pub ReadsOwn : Bool → List ℕ → ℕ → ℕ → Field → Type 0
+ReadsOwn timed text brace v r = (f : Found Value) → Slot text v f → (l : Left) → Reads text (ownField timed (drop brace text) f l) l r
 
 abbrev pub TimedRows : RowsOf P.Timed
 TimedRows td at chunk = chunk ≡ rows (allWords (timedRows td []))

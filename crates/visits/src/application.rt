@@ -14,45 +14,45 @@ use records::rows::Visit;
 use records::rows::up;
 use records::rows::up_found;
 ghost use Prim.Native.Nat.{_≤_};
+ghost use mathlib.Core.Path.{_≡_};
+ghost use mathlib.Core.Bool.{cond};
 ghost use lib.ListN.{length};
-ghost use Rattle.document.specs.Schema.{anAtTime, anInSegment};
-ghost use Rattle.visits.specs.Visiting.{Ready, AtTimeRows, InSegmentRows, TimesRows, SegmentsRows, VisitsObject, VisitsEach};
+ghost use Rattle.visits.specs.Visiting.{Ready, anApplication, ApplicationRows, ApplicationsRows, ReadsOwn, VisitsObject, VisitsEach};
 ghost use Rattle.visits.specs.Kept.{Kept};
 
-const AT_TIME: [usize; 2] = [DO, DT];
-
-const IN_SEGMENT: [usize; 2] = [DO, S];
-
-fn read_at_time(text: &[u8], at: usize, used: Used, words: &mut [u64]) -> Visit
-    requires { ⌜ Ready (now words) used × (at ≤ length (now text)) ⌝ }
-    ensures { λ r. ⌜ VisitsObject anAtTime AtTimeRows (now (text .entry)) at used (now (words .entry)) r (now (words .exit)) ⌝ }
-    ensures { λ r. ⌜ Kept 1 (now (words .entry)) used r (now (words .exit)) ⌝ }
+// The first of two names, or the second.
+pub(crate) fn name_of(first: bool, a: usize, b: usize) -> usize
+    ensures { λ r. ⌜ r ≡ cond first a b ⌝ }
 {
-    let o = opened::open_plain(text, at);
-    if o.refused {
-        return Visit::Refused(o.number, o.place);
+    if first {
+        return a;
     }
-    if rows::is_full(used) {
-        return Visit::Refused(15, at);
-    }
-    let slots = o.slots;
-    if let Unknown::At(q) = names::unknown_name(text, at, o.members, slots, &AT_TIME) {
-        return Visit::Refused(5, q);
-    }
-    let r = dosage::read_below(text, at, slots[DO], used, words);
-    let Visit::Done(done) = r else {
-        return r;
-    };
-    let f = field::time_field(text, at, slots[DT]);
-    let Field::Is(second) = f else {
-        return up(f);
-    };
-    rows::above(words, used, done, 17, second, 0, 0, 0)
+    b
 }
 
-fn read_in_segment(text: &[u8], at: usize, used: Used, words: &mut [u64]) -> Visit
+// The same of two tags.
+pub(crate) fn tag_of(first: bool, a: u64, b: u64) -> u64
+    ensures { λ r. ⌜ r ≡ cond first a b ⌝ }
+{
+    if first {
+        return a;
+    }
+    b
+}
+
+// The time of day, or the segment.
+fn own_field(text: &[u8], at: usize, v: usize, timed: bool) -> Field
+    ensures { λ r. ⌜ (at ≤ length (now (text .entry)) → ReadsOwn timed (now (text .entry)) at v r) ⌝ }
+{
+    if timed {
+        return field::time_field(text, at, v);
+    }
+    field::integer_field(text, at, v, 1, 4)
+}
+
+fn read_application(text: &[u8], at: usize, timed: bool, used: Used, words: &mut [u64]) -> Visit
     requires { ⌜ Ready (now words) used × (at ≤ length (now text)) ⌝ }
-    ensures { λ r. ⌜ VisitsObject anInSegment InSegmentRows (now (text .entry)) at used (now (words .entry)) r (now (words .exit)) ⌝ }
+    ensures { λ r. ⌜ VisitsObject (anApplication timed) (ApplicationRows timed) (now (text .entry)) at used (now (words .entry)) r (now (words .exit)) ⌝ }
     ensures { λ r. ⌜ Kept 1 (now (words .entry)) used r (now (words .exit)) ⌝ }
 {
     let o = opened::open_plain(text, at);
@@ -63,24 +63,32 @@ fn read_in_segment(text: &[u8], at: usize, used: Used, words: &mut [u64]) -> Vis
         return Visit::Refused(15, at);
     }
     let slots = o.slots;
-    if let Unknown::At(q) = names::unknown_name(text, at, o.members, slots, &IN_SEGMENT) {
+    let own = name_of(timed, DT, S);
+    let known = [DO, own];
+    if let Unknown::At(q) = names::unknown_name(text, at, o.members, slots, &known) {
         return Visit::Refused(5, q);
     }
     let r = dosage::read_below(text, at, slots[DO], used, words);
     let Visit::Done(done) = r else {
         return r;
     };
-    let f = field::integer_field(text, at, slots[S], 1, 4);
-    let Field::Is(segment) = f else {
+    let f = own_field(text, at, slots[own], timed);
+    let Field::Is(n) = f else {
         return up(f);
     };
-    rows::above(words, used, done, 18, segment, 0, 0, 0)
+    rows::above(words, used, done, tag_of(timed, 17, 18), n, 0, 0, 0)
 }
 
 // The applications of the list at `at`. Each takes a record, so there are never more than those left.
-pub(crate) fn read_times(text: &[u8], at: usize, first: Used, words: &mut [u64]) -> Visit
+pub(crate) fn read_applications(
+    text: &[u8],
+    at: usize,
+    timed: bool,
+    first: Used,
+    words: &mut [u64],
+) -> Visit
     requires { ⌜ Ready (now words) first × (at ≤ length (now text)) ⌝ }
-    ensures { λ r. ⌜ VisitsEach anAtTime TimesRows (now (text .entry)) at first (now (words .entry)) r (now (words .exit)) ⌝ }
+    ensures { λ r. ⌜ VisitsEach (anApplication timed) (ApplicationsRows timed) (now (text .entry)) at first (now (words .entry)) r (now (words .exit)) ⌝ }
     ensures { λ r. ⌜ Kept 0 (now (words .entry)) first r (now (words .exit)) ⌝ }
 {
     let mut used = first;
@@ -93,31 +101,7 @@ pub(crate) fn read_times(text: &[u8], at: usize, first: Used, words: &mut [u64])
         let Found::At(v) = f else {
             return up_found(f);
         };
-        let r = read_at_time(text, v, used, words);
-        let Visit::Done(done) = r else {
-            return r;
-        };
-        used = done;
-        e = moving::next_after(text, e);
-    }
-}
-
-pub(crate) fn read_segments(text: &[u8], at: usize, first: Used, words: &mut [u64]) -> Visit
-    requires { ⌜ Ready (now words) first × (at ≤ length (now text)) ⌝ }
-    ensures { λ r. ⌜ VisitsEach anInSegment SegmentsRows (now (text .entry)) at first (now (words .entry)) r (now (words .exit)) ⌝ }
-    ensures { λ r. ⌜ Kept 0 (now (words .entry)) first r (now (words .exit)) ⌝ }
-{
-    let mut used = first;
-    let mut e = moving::first_in(text, at);
-    loop {
-        if moving::at_end(text, e) {
-            return Visit::Done(used);
-        }
-        let f = field::object_value(text, e);
-        let Found::At(v) = f else {
-            return up_found(f);
-        };
-        let r = read_in_segment(text, v, used, words);
+        let r = read_application(text, v, timed, used, words);
         let Visit::Done(done) = r else {
             return r;
         };

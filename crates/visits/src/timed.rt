@@ -96,7 +96,7 @@ fn times(text: &[u8], at: usize, o: Opened, used: Used, words: &mut [u64]) -> Vi
     let Found::At(l) = f else {
         return up_found(f);
     };
-    let r = application::read_times(text, l, rows::one_more(used), words);
+    let r = application::read_applications(text, l, true, rows::one_more(used), words);
     let Visit::Done(done) = r else {
         return r;
     };
@@ -116,7 +116,7 @@ fn day_segments(text: &[u8], at: usize, o: Opened, used: Used, words: &mut [u64]
     let Found::At(l) = f else {
         return up_found(f);
     };
-    let r = application::read_segments(text, l, rows::one_more(used), words);
+    let r = application::read_applications(text, l, false, rows::one_more(used), words);
     let Visit::Done(done) = r else {
         return r;
     };

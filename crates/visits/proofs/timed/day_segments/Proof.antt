@@ -71,8 +71,8 @@ returns-2 c =
 one-more-requires : tie.Need-one-more-requires
 one-more-requires c κs = search needs
 
-read-segments-requires : tie.Need-read-segments-requires
-read-segments-requires c κs =
+read-applications-requires : tie.Need-read-applications-requires
+read-applications-requires c κs =
     let s = c .before .before .before .before .before .before .before .before .before .before .before .before .before in
     rw (one-more (s .pre .1) (c .before .one-more .ensures)) (record { size = s .pre .0 .size; few = omega (arith, s .pre .1) }, omega (arith, c .before .before .before .before .before .list-field .ensures .1 _ (c .before .before .before .f .given .1)))
 
@@ -89,7 +89,7 @@ returns-3 : tie.Need-returns-3
 returns-3 c =
     let s = c .before .before .before .before .before .before .before .before .before .before .before .before .before .before .before .before .before .before in
     let told = c .enum-told3 .given .1 in
-    let k = rw (one-more (s .pre .1) (c .before .before .before .before .before .before .one-more .ensures)) at (c .before .before .before .before .read-segments .ensures) in (
+    let k = rw (one-more (s .pre .1) (c .before .before .before .before .before .before .one-more .ensures)) at (c .before .before .before .before .read-applications .ensures) in (
       λ ts room p ms a once fits.
           let x = finds-list _ _ (c .before .before .before .before .before .before .before .before .before .before .list-field .ensures .0 (s .pre .2) _ (once .slot 10 (omega arith))) (c .before .before .before .before .before .before .before .before .f .given .1) in
           let e = x .outcome (any-objects anInSegment) (leftOf room (more (s .args .used))) in
@@ -113,7 +113,7 @@ same-length-2 c = search needs
 returns-4 : tie.Need-returns-4
 returns-4 c =
     let s = c .before .before .before .before .before .before .before .before .before .before .before .before .before .before .before .before .before .before .before .before .before .before .before in
-    let k = rw (one-more (s .pre .1) (c .before .before .before .before .before .before .before .before .before .before .before .one-more .ensures)) at (c .before .before .before .before .before .before .before .before .before .read-segments .ensures) in
+    let k = rw (one-more (s .pre .1) (c .before .before .before .before .before .before .before .before .before .before .before .one-more .ensures)) at (c .before .before .before .before .before .before .before .before .before .read-applications .ensures) in
     let kept = above-stores _ _ _ (k .1 .size ∙ s .pre .0 .size) (s .pre .1) (c .before .before .above .ensures) in
     let grown = k .1 .grown _ (c .before .before .before .before .before .r .given .1) in (
       λ ts room p ms a once fits.
@@ -146,7 +146,7 @@ day-segments-spec =
     up-found-requires
     returns-2
     one-more-requires
-    read-segments-requires
+    read-applications-requires
     enum-known-r
     enum-told-3
     same-length
