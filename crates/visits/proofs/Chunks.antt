@@ -11,25 +11,24 @@ use Rattle.document.specs.Valid.{timedRecords}
 use Rattle.document.specs.Table.{daySet, dosageRow, timesRows, segmentsRows, timedRows}
 use Rattle.document.specs.Visit.{Outcome}
 use Rattle.document.specs.Words.{words, row, rows, allWords}
-use Rattle.visits.specs.Visiting.{RowsOf, Did, anApplication, application, applicationsRows}
+use Rattle.visits.specs.Visiting.{RowsOf, Did, anApplication, applicationsRows}
 use Rattle.records.specs.Records.{more}
 use Rattle.records.specs.declared.rows.Used.{Used}
 use Rattle.visits.proofs.Rowed.{count-below}
+use Rattle.visits.proofs.Alike.{application, withApplications, onDays, either}
 
 -- How many words each value takes: six a record.
-pub times-length : (ts : List P.AtTime) → length (rows (allWords (timesRows ts []))) ≡ (length ts + length ts) * 6
-times-length [] = refl
-times-length (P.atTime d dt ∷ ts) = omega (arith, times-length ts)
-
-pub segments-length : (ss : List P.InSegment) → length (rows (allWords (segmentsRows ss []))) ≡ (length ss + length ss) * 6
-segments-length [] = refl
-segments-length (P.inSegment d s ∷ ss) = omega (arith, segments-length ss)
+pub applications-length : (timed : Bool) (as′ : List (OfFamily (anApplication timed))) → length (rows (allWords (applicationsRows timed as′))) ≡ (length as′ + length as′) * 6
+applications-length true [] = refl
+applications-length true (P.atTime d dt ∷ ts) = omega (arith, applications-length true ts)
+applications-length false [] = refl
+applications-length false (P.inSegment d s ∷ ss) = omega (arith, applications-length false ss)
 
 pub timed-length : (td : P.Timed) → length (rows (allWords (timedRows td []))) ≡ timedRecords td * 6
 unfolding timedRows
 timed-length (P.dosageOnly d) = refl
-timed-length (P.times ts) = omega (arith, times-length ts)
-timed-length (P.daySegments ss) = omega (arith, segments-length ss)
+timed-length (P.times ts) = omega (arith, applications-length true ts)
+timed-length (P.daySegments ss) = omega (arith, applications-length false ss)
 timed-length (P.weekDays ds td) = omega (arith, timed-length td)
 timed-length (P.daysOfMonth ds td) = omega (arith, timed-length td)
 timed-length (P.interval d du unit) = refl
@@ -51,8 +50,8 @@ row-above t a b c d {n′ = n′} {k} e e′ = ap (λ n. row (words n t a b c d)
 -- An application, its dosage below it.
 pub application-rows : (timed : Bool) (d : P.Dosage) (a : ℕ) {tag n : ℕ} {k : List ℕ} → tag ≡ cond timed 17 18 → n ≡ 1 → k ≡ rows (allWords (dosageRow d ∷ []))
     → row (words n tag a 0 0 0) k ≡ rows (allWords (applicationsRows timed (application timed d a ∷ [])))
-application-rows true d a {n = n} {k} t e e′ = ap (λ t. row (words n t a 0 0 0) k) t ∙ row-above 17 a 0 0 0 e e′
-application-rows false d a {n = n} {k} t e e′ = ap (λ t. row (words n t a 0 0 0) k) t ∙ row-above 18 a 0 0 0 e e′
+application-rows timed d a {n = n} {k} t e e′ =
+    either (λ t tag. row (words n tag a 0 0 0) k ≡ rows (allWords (applicationsRows t (application t d a ∷ [])))) timed t (row-above 17 a 0 0 0 e e′) (row-above 18 a 0 0 0 e e′)
 
 -- How many records are below one, by the words of what was done there.
 pub counted : {B : Type 0} {room : ℕ} (u : Used) {v : Used} {before mid : List ℕ} {below : RowsOf B} {o : Outcome B} (d : Did room (more u) before below o v mid) (n : ℕ) {c : List ℕ}
@@ -65,23 +64,18 @@ module _ {n : ℕ} {k : List ℕ} where
   unfolding timedRows
   dosage-only-rows d e e′ = row-above 6 0 0 0 0 e e′
 
-  pub times-rows : (ts : List P.AtTime) → n ≡ length ts + length ts → k ≡ rows (allWords (timesRows ts [])) → row (words n 7 0 0 0 0) k ≡ rows (allWords (timedRows (P.times ts) []))
+  pub applications-rows : (timed : Bool) (as′ : List (OfFamily (anApplication timed))) {tag : ℕ} → tag ≡ cond timed 7 8 → n ≡ length as′ + length as′
+      → k ≡ rows (allWords (applicationsRows timed as′)) → row (words n tag 0 0 0 0) k ≡ rows (allWords (timedRows (withApplications timed as′) []))
   unfolding timedRows
-  times-rows ts e e′ = row-above 7 0 0 0 0 e e′
+  applications-rows true ts t e e′ = ap (λ tag. row (words n tag 0 0 0 0) k) t ∙ row-above 7 0 0 0 0 e e′
+  applications-rows false ss t e e′ = ap (λ tag. row (words n tag 0 0 0 0) k) t ∙ row-above 8 0 0 0 0 e e′
 
-  pub day-segments-rows : (ss : List P.InSegment) → n ≡ length ss + length ss → k ≡ rows (allWords (segmentsRows ss [])) → row (words n 8 0 0 0 0) k ≡ rows (allWords (timedRows (P.daySegments ss) []))
+  pub days-rows : (week : Bool) (ds : List ℕ) (td : P.Timed) {tag set : ℕ} → tag ≡ cond week 9 10 → daySet ds ≡ set → n ≡ timedRecords td
+      → k ≡ rows (allWords (timedRows td [])) → row (words n tag set 0 0 0) k ≡ rows (allWords (timedRows (onDays week ds td) []))
   unfolding timedRows
-  day-segments-rows ss e e′ = row-above 8 0 0 0 0 e e′
-
-  pub week-days-rows : (ds : List ℕ) (td : P.Timed) {set : ℕ} → daySet ds ≡ set → n ≡ timedRecords td → k ≡ rows (allWords (timedRows td []))
-      → row (words n 9 set 0 0 0) k ≡ rows (allWords (timedRows (P.weekDays ds td) []))
-  unfolding timedRows
-  week-days-rows ds td b e e′ = ap (λ s. row (words n 9 s 0 0 0) k) (sym b) ∙ row-above 9 (daySet ds) 0 0 0 e e′
-
-  pub days-of-month-rows : (ds : List ℕ) (td : P.Timed) {set : ℕ} → daySet ds ≡ set → n ≡ timedRecords td → k ≡ rows (allWords (timedRows td []))
-      → row (words n 10 set 0 0 0) k ≡ rows (allWords (timedRows (P.daysOfMonth ds td) []))
-  unfolding timedRows
-  days-of-month-rows ds td b e e′ = ap (λ s. row (words n 10 s 0 0 0) k) (sym b) ∙ row-above 10 (daySet ds) 0 0 0 e e′
+  days-rows week ds td {tag} t b e e′ =
+      ap (λ s. row (words n tag s 0 0 0) k) (sym b)
+      ∙ either (λ w tag. row (words n tag (daySet ds) 0 0 0) k ≡ rows (allWords (timedRows (onDays w ds td) []))) week t (row-above 9 (daySet ds) 0 0 0 e e′) (row-above 10 (daySet ds) 0 0 0 e e′)
 
   pub interval-rows : (d : P.Dosage) (du unit : ℕ) → n ≡ 1 → k ≡ rows (allWords (dosageRow d ∷ [])) → row (words n 11 du unit 0 0) k ≡ rows (allWords (timedRows (P.interval d du unit) []))
   unfolding timedRows

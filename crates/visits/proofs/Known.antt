@@ -1,18 +1,18 @@
 -- The names and the fields of each object's rows, by the numbers of the names.
-use Prim.Native.Nat.{ℕ, _<_}
-use mathlib.Core.Path.{_≡_, refl, ap, sym}
+use Prim.Native.Nat.{ℕ}
+use mathlib.Core.Path.{_≡_, refl}
 use mathlib.Core.List.{List, [], _∷_}
 use mathlib.Core.Bool.{Bool, true, false, cond}
-use native.Mathlib.Omega.{arith}
 use lib.Dec.{ltb}
 use Rattle.json.specs.Tree.{Place}
 use Rattle.document.specs.Bytes.{bytes}
 use Rattle.document.specs.Posology as P
 use Rattle.document.specs.Lookup.{Entry, find}
-use Rattle.document.specs.Schema.{aTimed, aDosage, anAtTime, anInSegment, integer, decimal, aNumber, aString, anObject, aList, time, days, any-objects, underDays, rowsOf, typesOf, dosageOnlyRows, timesRows, daySegmentsRows, weekDaysRows, daysOfMonthRows, intervalRows, simpleRows, fromToRows, rangeRows, atTimeRows, inSegmentRows}
+use Rattle.document.specs.Schema.{aTimed, aDosage, integer, decimal, aNumber, anObject, aList, days, any-objects, underDays, rowsOf, typesOf, dosageOnlyRows, timesRows, daySegmentsRows, weekDaysRows, daysOfMonthRows, intervalRows, simpleRows, fromToRows, rangeRows, atTimeRows, inSegmentRows}
 use Rattle.document.specs.Visit.{Left, done, bind, guard, needed, fields, Value}
-use Rattle.names.specs.Names.{names, nameAt, rowNames, isRow}
-use Rattle.visits.specs.Visiting.{anApplication, application, ownField}
+use Rattle.names.specs.Names.{names, nameAt, isRow}
+use Rattle.visits.specs.Visiting.{anApplication, ownField}
+use Rattle.visits.proofs.Alike.{application, withApplications, onDays, either}
 use Rattle.visits.proofs.Bodies.{Known}
 
 -- Dosages
@@ -33,18 +33,13 @@ pub application-plain : (timed : Bool) → typesOf (anApplication timed) ≡ 0
 application-plain true = refl
 application-plain false = refl
 
-pub application-row : (timed : Bool) {own : ℕ} → own ≡ cond timed 23 24 → isRow (8 ∷ own ∷ []) ≡ true
-application-row true e = ap (λ k. isRow (8 ∷ k ∷ [])) e
-application-row false e = ap (λ k. isRow (8 ∷ k ∷ [])) e
+module _ (timed : Bool) {own : ℕ} (e : own ≡ cond timed 23 24) where
+  pub application-row : isRow (8 ∷ own ∷ []) ≡ true
+  application-row = either (λ _ k. isRow (8 ∷ k ∷ []) ≡ true) timed e refl refl
 
-pub own-small : (timed : Bool) {own : ℕ} → own ≡ cond timed 23 24 → own < 33
-own-small true e = omega (arith, e)
-own-small false e = omega (arith, e)
-
-pub application-known : (timed : Bool) {own : ℕ} → own ≡ cond timed 23 24 → Known (anApplication timed) 0 [] (8 ∷ own ∷ [])
-unfolding rowsOf atTimeRows inSegmentRows nameAt names
-application-known true e = record { counted = refl; named = ap (λ k. rowNames (8 ∷ k ∷ [])) e }
-application-known false e = record { counted = refl; named = ap (λ k. rowNames (8 ∷ k ∷ [])) e }
+  pub application-known : Known (anApplication timed) 0 [] (8 ∷ own ∷ [])
+  unfolding rowsOf atTimeRows inSegmentRows nameAt names
+  application-known = either (λ t k. Known (anApplication t) 0 [] (8 ∷ k ∷ [])) timed e (record { counted = refl; named = refl }) (record { counted = refl; named = refl })
 
 -- Timed dosages
 module _ (ts : List ℕ) where
@@ -52,21 +47,21 @@ module _ (ts : List ℕ) where
   unfolding rowsOf dosageOnlyRows nameAt names
   dosage-only-known = record { counted = refl; named = refl }
 
-  pub times-known : Known (aTimed ts) 2 (bytes "t" ∷ []) (0 ∷ 9 ∷ [])
-  unfolding rowsOf timesRows nameAt names
-  times-known = record { counted = refl; named = refl }
+  module _ (timed : Bool) {own : ℕ} (e : own ≡ cond timed 9 10) where
+    pub applications-row : isRow (0 ∷ own ∷ []) ≡ true
+    applications-row = either (λ _ k. isRow (0 ∷ k ∷ []) ≡ true) timed e refl refl
 
-  pub day-segments-known : Known (aTimed ts) 3 (bytes "t" ∷ []) (0 ∷ 10 ∷ [])
-  unfolding rowsOf daySegmentsRows nameAt names
-  day-segments-known = record { counted = refl; named = refl }
+    pub applications-known : Known (aTimed ts) (cond timed 2 3) (bytes "t" ∷ []) (0 ∷ own ∷ [])
+    unfolding rowsOf timesRows daySegmentsRows nameAt names
+    applications-known = either (λ t k. Known (aTimed ts) (cond t 2 3) (bytes "t" ∷ []) (0 ∷ k ∷ [])) timed e (record { counted = refl; named = refl }) (record { counted = refl; named = refl })
 
-  pub week-days-known : Known (aTimed ts) 4 (bytes "t" ∷ []) (0 ∷ 11 ∷ 3 ∷ [])
-  unfolding rowsOf weekDaysRows nameAt names
-  week-days-known = record { counted = refl; named = refl }
+  module _ (week : Bool) {own : ℕ} (e : own ≡ cond week 11 12) where
+    pub days-row : isRow (0 ∷ own ∷ 3 ∷ []) ≡ true
+    days-row = either (λ _ k. isRow (0 ∷ k ∷ 3 ∷ []) ≡ true) week e refl refl
 
-  pub days-of-month-known : Known (aTimed ts) 5 (bytes "t" ∷ []) (0 ∷ 12 ∷ 3 ∷ [])
-  unfolding rowsOf daysOfMonthRows nameAt names
-  days-of-month-known = record { counted = refl; named = refl }
+    pub days-known : Known (aTimed ts) (cond week 4 5) (bytes "t" ∷ []) (0 ∷ own ∷ 3 ∷ [])
+    unfolding rowsOf weekDaysRows daysOfMonthRows nameAt names
+    days-known = either (λ w k. Known (aTimed ts) (cond w 4 5) (bytes "t" ∷ []) (0 ∷ k ∷ 3 ∷ [])) week e (record { counted = refl; named = refl }) (record { counted = refl; named = refl })
 
   pub interval-known : Known (aTimed ts) 6 (bytes "t" ∷ []) (0 ∷ 8 ∷ 13 ∷ 14 ∷ [])
   unfolding rowsOf intervalRows nameAt names
@@ -102,40 +97,42 @@ module _ (p : Place) (es : List (Entry Value)) (l : Left) where
       bind (ownField timed p (find (nameAt own) es) l₁) λ n l₂.
       done (application timed d n) l₂)
   unfolding rowsOf atTimeRows inSegmentRows nameAt names
-  application-fields true e =
-      ap (λ k. bind (needed (anObject aDosage) p (find (nameAt 8) es) l) λ d l₁. bind (ownField true p (find (nameAt k) es) l₁) λ n l₂. done (P.atTime d n) l₂) (sym e)
-  application-fields false e =
-      ap (λ k. bind (needed (anObject aDosage) p (find (nameAt 8) es) l) λ d l₁. bind (ownField false p (find (nameAt k) es) l₁) λ n l₂. done (P.inSegment d n) l₂) (sym e)
+  application-fields timed e =
+      either (λ t k.
+      fields (rowsOf (anApplication t) 0) p es l
+      ≡ (bind (needed (anObject aDosage) p (find (nameAt 8) es) l) λ d l₁.
+      bind (ownField t p (find (nameAt k) es) l₁) λ n l₂.
+      done (application t d n) l₂))
+      timed e refl refl
 
   module _ (ts : List ℕ) where
     pub dosage-only-fields : fields (rowsOf (aTimed ts) 1) p es l ≡ (bind (needed (anObject aDosage) p (find (nameAt 8) es) l) λ d l₁. done (P.dosageOnly d) l₁)
     unfolding rowsOf dosageOnlyRows nameAt names
     dosage-only-fields = refl
 
-    pub times-fields : fields (rowsOf (aTimed ts) 2) p es l ≡ (bind (needed (aList (any-objects anAtTime)) p (find (nameAt 9) es) l) λ as′ l₁. done (P.times as′) l₁)
-    unfolding rowsOf timesRows nameAt names
-    times-fields = refl
+    pub applications-fields : (timed : Bool) {own : ℕ} → own ≡ cond timed 9 10
+        → fields (rowsOf (aTimed ts) (cond timed 2 3)) p es l
+        ≡ (bind (needed (aList (any-objects (anApplication timed))) p (find (nameAt own) es) l) λ as′ l₁. done (withApplications timed as′) l₁)
+    unfolding rowsOf timesRows daySegmentsRows nameAt names
+    applications-fields timed e =
+        either (λ t k.
+        fields (rowsOf (aTimed ts) (cond t 2 3)) p es l
+        ≡ (bind (needed (aList (any-objects (anApplication t))) p (find (nameAt k) es) l) λ as′ l₁. done (withApplications t as′) l₁))
+        timed e refl refl
 
-    pub day-segments-fields :
-        fields (rowsOf (aTimed ts) 3) p es l ≡ (bind (needed (aList (any-objects anInSegment)) p (find (nameAt 10) es) l) λ as′ l₁. done (P.daySegments as′) l₁)
-    unfolding rowsOf daySegmentsRows nameAt names
-    day-segments-fields = refl
-
-    pub week-days-fields :
-        fields (rowsOf (aTimed ts) 4) p es l
-        ≡ (bind (needed (aList (days 7)) p (find (nameAt 11) es) l) λ ds l₁.
+    pub days-fields : (week : Bool) {own : ℕ} → own ≡ cond week 11 12
+        → fields (rowsOf (aTimed ts) (cond week 4 5)) p es l
+        ≡ (bind (needed (aList (days (cond week 7 28))) p (find (nameAt own) es) l) λ ds l₁.
         bind (needed (anObject (aTimed underDays)) p (find (nameAt 3) es) l₁) λ td l₂.
-        done (P.weekDays ds td) l₂)
-    unfolding rowsOf weekDaysRows nameAt names
-    week-days-fields = refl
-
-    pub days-of-month-fields :
-        fields (rowsOf (aTimed ts) 5) p es l
-        ≡ (bind (needed (aList (days 28)) p (find (nameAt 12) es) l) λ ds l₁.
+        done (onDays week ds td) l₂)
+    unfolding rowsOf weekDaysRows daysOfMonthRows nameAt names
+    days-fields week e =
+        either (λ w k.
+        fields (rowsOf (aTimed ts) (cond w 4 5)) p es l
+        ≡ (bind (needed (aList (days (cond w 7 28))) p (find (nameAt k) es) l) λ ds l₁.
         bind (needed (anObject (aTimed underDays)) p (find (nameAt 3) es) l₁) λ td l₂.
-        done (P.daysOfMonth ds td) l₂)
-    unfolding rowsOf daysOfMonthRows nameAt names
-    days-of-month-fields = refl
+        done (onDays w ds td) l₂))
+        week e refl refl
 
     pub interval-fields :
         fields (rowsOf (aTimed ts) 6) p es l

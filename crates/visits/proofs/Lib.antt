@@ -1,6 +1,7 @@
 -- What the proofs of several functions use.
 mod Rowed
 pub mod Bodies
+mod Alike
 mod Known
 mod Chunks
 mod Listing

@@ -65,10 +65,6 @@ abbrev pub anApplication : Bool → Family
 anApplication true = anAtTime
 anApplication false = anInSegment
 
-abbrev pub application : (timed : Bool) → P.Dosage → ℕ → OfFamily (anApplication timed)
-application true d dt = P.atTime d dt
-application false d s = P.inSegment d s
-
 abbrev pub applicationsRows : (timed : Bool) → List (OfFamily (anApplication timed)) → List Record
 applicationsRows true ts = timesRows ts []
 applicationsRows false ss = segmentsRows ss []

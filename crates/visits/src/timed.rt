@@ -1,5 +1,7 @@
 // Timed dosages (document 01, "Objects": DosageOnly to Interval).
 use crate::application;
+use crate::application::name_of;
+use crate::application::tag_of;
 use crate::dosage;
 use fields::days;
 use fields::field;
@@ -25,25 +27,19 @@ use records::rows::Visit;
 use records::rows::up;
 use records::rows::up_found;
 ghost use mathlib.Core.List.{List};
+ghost use mathlib.Core.Bool.{cond};
 ghost use Prim.Native.Nat.{ℕ, _≤_, _<_};
 ghost use lib.ListN.{length};
 ghost use Rattle.json.specs.Tree.{Place, Members, object};
 ghost use Rattle.document.specs.Schema.{aTimed, underDays};
 ghost use Rattle.document.specs.Visit.{entriesOf};
 ghost use Rattle.document.specs.At.{At};
+ghost use Rattle.fields.specs.Dates.{ReadsDays};
 ghost use Rattle.records.specs.Under.{typesUnder};
 ghost use Rattle.visits.specs.Visiting.{Ready, TimedRows, OpensUnder, VisitsBody, VisitsNeeded};
 ghost use Rattle.visits.specs.Kept.{Kept, Stands};
 
 const DOSAGE_ONLY: [usize; 2] = [T, DO];
-
-const TIMES: [usize; 2] = [T, TS];
-
-const DAY_SEGMENTS: [usize; 2] = [T, SS];
-
-const WEEK_DAYS: [usize; 3] = [T, WDS, TDO];
-
-const DAYS_OF_MONTH: [usize; 3] = [T, DOMS, TDO];
 
 const INTERVAL: [usize; 4] = [T, DO, MI_DU, MI_DU_U];
 
@@ -83,44 +79,34 @@ fn dosage_only(text: &[u8], at: usize, o: Opened, used: Used, words: &mut [u64])
     rows::above(words, used, done, 6, 0, 0, 0, 0)
 }
 
-fn times(text: &[u8], at: usize, o: Opened, used: Used, words: &mut [u64]) -> Visit
+// Times, or DaySegments.
+fn applications(
+    text: &[u8],
+    at: usize,
+    o: Opened,
+    timed: bool,
+    used: Used,
+    words: &mut [u64],
+) -> Visit
     requires { ⌜ Ready (now words) used × (used .records < 64) × (at ≤ length (now text)) ⌝ }
-    ensures { λ r. ⌜ ((ts : List ℕ) → VisitsBody (aTimed ts) 2 TimedRows (now (text .entry)) at o used (now (words .entry)) r (now (words .exit))) ⌝ }
+    ensures { λ r. ⌜ ((ts : List ℕ) → VisitsBody (aTimed ts) (cond timed 2 3) TimedRows (now (text .entry)) at o used (now (words .entry)) r (now (words .exit))) ⌝ }
     ensures { λ r. ⌜ Kept 1 (now (words .entry)) used r (now (words .exit)) ⌝ }
 {
     let slots = o.slots;
-    if let Unknown::At(q) = names::unknown_name(text, at, o.members, slots, &TIMES) {
+    let own = name_of(timed, TS, SS);
+    let known = [T, own];
+    if let Unknown::At(q) = names::unknown_name(text, at, o.members, slots, &known) {
         return Visit::Refused(5, q);
     }
-    let f = field::list_field(text, at, slots[TS]);
+    let f = field::list_field(text, at, slots[own]);
     let Found::At(l) = f else {
         return up_found(f);
     };
-    let r = application::read_applications(text, l, true, rows::one_more(used), words);
+    let r = application::read_applications(text, l, timed, rows::one_more(used), words);
     let Visit::Done(done) = r else {
         return r;
     };
-    rows::above(words, used, done, 7, 0, 0, 0, 0)
-}
-
-fn day_segments(text: &[u8], at: usize, o: Opened, used: Used, words: &mut [u64]) -> Visit
-    requires { ⌜ Ready (now words) used × (used .records < 64) × (at ≤ length (now text)) ⌝ }
-    ensures { λ r. ⌜ ((ts : List ℕ) → VisitsBody (aTimed ts) 3 TimedRows (now (text .entry)) at o used (now (words .entry)) r (now (words .exit))) ⌝ }
-    ensures { λ r. ⌜ Kept 1 (now (words .entry)) used r (now (words .exit)) ⌝ }
-{
-    let slots = o.slots;
-    if let Unknown::At(q) = names::unknown_name(text, at, o.members, slots, &DAY_SEGMENTS) {
-        return Visit::Refused(5, q);
-    }
-    let f = field::list_field(text, at, slots[SS]);
-    let Found::At(l) = f else {
-        return up_found(f);
-    };
-    let r = application::read_applications(text, l, false, rows::one_more(used), words);
-    let Visit::Done(done) = r else {
-        return r;
-    };
-    rows::above(words, used, done, 8, 0, 0, 0, 0)
+    rows::above(words, used, done, tag_of(timed, 7, 8), 0, 0, 0, 0)
 }
 
 fn interval(text: &[u8], at: usize, o: Opened, used: Used, words: &mut [u64]) -> Visit
@@ -156,8 +142,8 @@ fn plain_timed(text: &[u8], at: usize, o: Opened, used: Used, words: &mut [u64])
     let kind = o.kind;
     match kind {
         1 => dosage_only(text, at, o, used, words),
-        2 => times(text, at, o, used, words),
-        _ => day_segments(text, at, o, used, words),
+        2 => applications(text, at, o, true, used, words),
+        _ => applications(text, at, o, false, used, words),
     }
 }
 
@@ -178,36 +164,29 @@ fn read_under_days(text: &[u8], brace: usize, v: usize, used: Used, words: &mut 
     plain_timed(text, at, o, used, words)
 }
 
-fn week_days(text: &[u8], at: usize, o: Opened, used: Used, words: &mut [u64]) -> Visit
-    requires { ⌜ Ready (now words) used × (used .records < 64) × (at ≤ length (now text)) ⌝ }
-    ensures { λ r. ⌜ ((ts : List ℕ) → VisitsBody (aTimed ts) 4 TimedRows (now (text .entry)) at o used (now (words .entry)) r (now (words .exit))) ⌝ }
-    ensures { λ r. ⌜ Kept 1 (now (words .entry)) used r (now (words .exit)) ⌝ }
+// The days of a week, or of a month.
+fn days_of(text: &[u8], at: usize, v: usize, week: bool) -> Field
+    ensures { λ r. ⌜ (at ≤ length (now (text .entry)) → ReadsDays (now (text .entry)) at v (cond week 7 28) r) ⌝ }
 {
-    let slots = o.slots;
-    if let Unknown::At(q) = names::unknown_name(text, at, o.members, slots, &WEEK_DAYS) {
-        return Visit::Refused(5, q);
+    if week {
+        return days::week_days(text, at, v);
     }
-    let f = days::week_days(text, at, slots[WDS]);
-    let Field::Is(set) = f else {
-        return up(f);
-    };
-    let r = read_under_days(text, at, slots[TDO], rows::one_more(used), words);
-    let Visit::Done(done) = r else {
-        return r;
-    };
-    rows::above(words, used, done, 9, set, 0, 0, 0)
+    days::month_days(text, at, v)
 }
 
-fn days_of_month(text: &[u8], at: usize, o: Opened, used: Used, words: &mut [u64]) -> Visit
+// WeekDays, or DaysOfMonth.
+fn on_days(text: &[u8], at: usize, o: Opened, week: bool, used: Used, words: &mut [u64]) -> Visit
     requires { ⌜ Ready (now words) used × (used .records < 64) × (at ≤ length (now text)) ⌝ }
-    ensures { λ r. ⌜ ((ts : List ℕ) → VisitsBody (aTimed ts) 5 TimedRows (now (text .entry)) at o used (now (words .entry)) r (now (words .exit))) ⌝ }
+    ensures { λ r. ⌜ ((ts : List ℕ) → VisitsBody (aTimed ts) (cond week 4 5) TimedRows (now (text .entry)) at o used (now (words .entry)) r (now (words .exit))) ⌝ }
     ensures { λ r. ⌜ Kept 1 (now (words .entry)) used r (now (words .exit)) ⌝ }
 {
     let slots = o.slots;
-    if let Unknown::At(q) = names::unknown_name(text, at, o.members, slots, &DAYS_OF_MONTH) {
+    let own = name_of(week, WDS, DOMS);
+    let known = [T, own, TDO];
+    if let Unknown::At(q) = names::unknown_name(text, at, o.members, slots, &known) {
         return Visit::Refused(5, q);
     }
-    let f = days::month_days(text, at, slots[DOMS]);
+    let f = days_of(text, at, slots[own], week);
     let Field::Is(set) = f else {
         return up(f);
     };
@@ -215,7 +194,7 @@ fn days_of_month(text: &[u8], at: usize, o: Opened, used: Used, words: &mut [u64
     let Visit::Done(done) = r else {
         return r;
     };
-    rows::above(words, used, done, 10, set, 0, 0, 0)
+    rows::above(words, used, done, tag_of(week, 9, 10), set, 0, 0, 0)
 }
 
 // The timed dosage that must stand at v in the object at `brace`, under this parent.
@@ -241,8 +220,8 @@ pub(crate) fn read_timed(
     }
     let kind = o.kind;
     match kind {
-        4 => week_days(text, at, o, used, words),
-        5 => days_of_month(text, at, o, used, words),
+        4 => on_days(text, at, o, true, used, words),
+        5 => on_days(text, at, o, false, used, words),
         6 => interval(text, at, o, used, words),
         _ => plain_timed(text, at, o, used, words),
     }

@@ -10,7 +10,8 @@ use Rattle.visits.specs.Visiting.{leftOf, anApplication}
 use Rattle.records.specs.Records.{more}
 use Rattle.visits.proofs.Rowed.{above-did, visited-done, visited-refused, kept-refused, kept-done}
 use Rattle.visits.proofs.Bodies.{object-at, plain-as, body-full, body-opens, body-unknown, refuses-as, refuses-bind, done-bind, reads-done, reads-refused}
-use Rattle.visits.proofs.Known.{application-plain, application-row, application-known, application-fields, own-small}
+use Rattle.visits.proofs.Alike.{name-small}
+use Rattle.visits.proofs.Known.{application-plain, application-row, application-known, application-fields}
 use Rattle.visits.proofs.Chunks.{application-rows, counted}
 use Rattle.records.proofs.Records.{above-stores}
 use borrow.Author.Needs.{needs}
@@ -103,10 +104,10 @@ returns-4 c =
     )
 
 mul-own-field : tie.Need-mul-own-field
-mul-own-field c = omega (arith, own-small (c .before .before .before .before .before .before .before .before .before .before .before .before .before .before .before .before .before .before .before .args .timed) (c .before .before .before .before .before .before .before .before .before .before .before .name-of .ensures))
+mul-own-field c = omega (arith, name-small (c .before .before .before .before .before .before .before .before .before .before .before .before .before .before .before .before .before .before .before .args .timed) (c .before .before .before .before .before .before .before .before .before .before .before .name-of .ensures) (omega arith) (omega arith))
 
 array-read-own-field : tie.Need-array-read-own-field
-array-read-own-field c = own-small (c .before .before .before .before .before .before .before .before .before .before .before .before .before .before .before .before .before .before .before .args .timed) (c .before .before .before .before .before .before .before .before .before .before .before .name-of .ensures)
+array-read-own-field c = name-small (c .before .before .before .before .before .before .before .before .before .before .before .before .before .before .before .before .before .before .before .args .timed) (c .before .before .before .before .before .before .before .before .before .before .before .name-of .ensures) (omega arith) (omega arith)
 
 own-field-requires : tie.Need-own-field-requires
 own-field-requires c κs = search needs
@@ -136,7 +137,7 @@ returns-5 c =
                 ∙ body-opens (application-known (s .args .timed) (c .before .before .before .before .before .before .before .before .before .before .before .before .before .before .before .name-of .ensures)) _ (entriesOf ms) room (s .args .used) (leb-false _ _ (sym (c .before .before .before .before .before .before .before .before .before .before .before .before .before .before .before .before .before .before .is-full .ensures) ∙ c .before .before .before .before .before .before .before .before .before .before .before .before .before .before .before .before .before .if2 .left)) _ (c .before .before .before .before .before .before .before .before .before .before .before .before .before .unknown-name .ensures (application-row (s .args .timed) (c .before .before .before .before .before .before .before .before .before .before .before .before .before .before .before .name-of .ensures)) p ms a (o .settled (c .before .before .before .before .before .before .before .before .before .before .before .before .before .before .before .before .before .before .before .if1 .left))) (c .before .before .before .before .before .before .before .before .before .before .before .enum-told .given .1)
                 ∙ application-fields _ (entriesOf ms) (leftOf room (more (s .args .used))) (s .args .timed) (c .before .before .before .before .before .before .before .before .before .before .before .before .before .before .before .name-of .ensures)
                 ∙ done-bind _ (d .outcome))
-                (refuses-bind _ (reads-refused _ _ (c .before .before .before .own-field .ensures (s .pre .1) _ (o .settled (c .before .before .before .before .before .before .before .before .before .before .before .before .before .before .before .before .before .before .before .if1 .left) .slot _ (own-small (s .args .timed) (c .before .before .before .before .before .before .before .before .before .before .before .before .before .before .before .name-of .ensures))) _) (c .before .enum-told3 .given .1))),
+                (refuses-bind _ (reads-refused _ _ (c .before .before .before .own-field .ensures (s .pre .1) _ (o .settled (c .before .before .before .before .before .before .before .before .before .before .before .before .before .before .before .before .before .before .before .if1 .left) .slot _ (name-small (s .args .timed) (c .before .before .before .before .before .before .before .before .before .before .before .before .before .before .before .name-of .ensures) (omega arith) (omega arith))) _) (c .before .enum-told3 .given .1))),
             c .before .before .before .before .before .before .before .before .before .read-below .ensures .1 .size,
           ),
       kept-refused 1 (s .args .used) up (c .before .before .before .before .before .before .before .before .before .read-below .ensures .1 .size),
@@ -165,7 +166,7 @@ returns-6 c =
           ∙ body-opens (application-known (s .args .timed) (c .before .before .before .before .before .before .before .before .before .before .before .before .before .before .before .before .before .before .before .before .name-of .ensures)) _ (entriesOf ms) room (s .args .used) (leb-false _ _ (sym (c .before .before .before .before .before .before .before .before .before .before .before .before .before .before .before .before .before .before .before .before .before .before .before .is-full .ensures) ∙ c .before .before .before .before .before .before .before .before .before .before .before .before .before .before .before .before .before .before .before .before .before .before .if2 .left)) _ (c .before .before .before .before .before .before .before .before .before .before .before .before .before .before .before .before .before .before .unknown-name .ensures (application-row (s .args .timed) (c .before .before .before .before .before .before .before .before .before .before .before .before .before .before .before .before .before .before .before .before .name-of .ensures)) p ms a (o .settled (c .before .before .before .before .before .before .before .before .before .before .before .before .before .before .before .before .before .before .before .before .before .before .before .before .if1 .left))) (c .before .before .before .before .before .before .before .before .before .before .before .before .before .before .before .before .enum-told .given .1)
           ∙ application-fields _ (entriesOf ms) (leftOf room (more (s .args .used))) (s .args .timed) (c .before .before .before .before .before .before .before .before .before .before .before .before .before .before .before .before .before .before .before .before .name-of .ensures)
           ∙ done-bind _ (d .outcome)
-          ∙ done-bind _ (reads-done _ (c .before .before .before .before .before .before .before .before .own-field .ensures (s .pre .1) _ (o .settled (c .before .before .before .before .before .before .before .before .before .before .before .before .before .before .before .before .before .before .before .before .before .before .before .before .if1 .left) .slot _ (own-small (s .args .timed) (c .before .before .before .before .before .before .before .before .before .before .before .before .before .before .before .before .before .before .before .before .name-of .ensures))) _) (c .before .before .before .before .before .before .f .given .1)))
+          ∙ done-bind _ (reads-done _ (c .before .before .before .before .before .before .before .before .own-field .ensures (s .pre .1) _ (o .settled (c .before .before .before .before .before .before .before .before .before .before .before .before .before .before .before .before .before .before .before .before .before .before .before .before .if1 .left) .slot _ (name-small (s .args .timed) (c .before .before .before .before .before .before .before .before .before .before .before .before .before .before .before .before .before .before .before .before .name-of .ensures) (omega arith) (omega arith))) _) (c .before .before .before .before .before .before .f .given .1)))
           (application-rows (s .args .timed) (d .value) _ (c .before .before .before .tag-of .ensures) (counted (s .args .used) d 1 (d .row) refl) (d .row))
           (kept .1)),
       kept-done (kept .0) ((simp length-set at (ap length (kept .1))) ∙ c .before .before .before .before .before .before .before .before .before .before .before .before .before .before .read-below .ensures .1 .size) (record { some = omega (arith, grown .some); few = grown .few }),

@@ -14,11 +14,11 @@ use Rattle.visits.proofs.timed.plain_timed.Tie as tie
 dosage-only-requires : tie.Need-dosage-only-requires
 dosage-only-requires c κs = search needs
 
-times-requires : tie.Need-times-requires
-times-requires c κs = search needs
+applications-requires : tie.Need-applications-requires
+applications-requires c κs = search needs
 
-day-segments-requires : tie.Need-day-segments-requires
-day-segments-requires c κs = search needs
+applications-requires-2 : tie.Need-applications-requires-2
+applications-requires-2 c κs = search needs
 
 same-length : tie.Need-same-length
 same-length c = search needs
@@ -38,8 +38,8 @@ returns-2 : tie.Need-returns-2
 returns-2 c =
     let s = c .before .before .before .before .before .before .before in (
       λ ts room p ms a once fits.
-          visited-as (s .args .text .now) room (s .args .used) (s .args .words .now) TimedRows (c .before .before .times .result) (c .before .before .times .last .1 .1 .1 .1 .0) (ap (λ t. body (aTimed ts) t (bytes "t" ∷ []) p (entriesOf ms) (leftOf room (s .args .used))) (c .before .before .before .before .match .keys2)) (c .before .before .times .ensures .0 ts room p ms a once fits),
-      c .before .before .times .ensures .1,
+          visited-as (s .args .text .now) room (s .args .used) (s .args .words .now) TimedRows (c .before .before .applications .result) (c .before .before .applications .last .1 .1 .1 .1 .1 .0) (ap (λ t. body (aTimed ts) t (bytes "t" ∷ []) p (entriesOf ms) (leftOf room (s .args .used))) (c .before .before .before .before .match .keys2)) (c .before .before .applications .ensures .0 ts room p ms a once fits),
+      c .before .before .applications .ensures .1,
     )
 
 same-length-3 : tie.Need-same-length-3
@@ -50,8 +50,8 @@ returns-3 c =
     let s = c .before .before .before .before .before .before .before in
     let k : s .args .o .kind ≡ 3 = omega (arith, s .pre .3, s .pre .4, c .before .before .before .before .match .rest .0 .1, c .before .before .before .before .match .rest .1) in (
       λ ts room p ms a once fits.
-          visited-as (s .args .text .now) room (s .args .used) (s .args .words .now) TimedRows (c .before .before .day-segments .result) (c .before .before .day-segments .last .1 .1 .1 .1 .0) (ap (λ t. body (aTimed ts) t (bytes "t" ∷ []) p (entriesOf ms) (leftOf room (s .args .used))) (k)) (c .before .before .day-segments .ensures .0 ts room p ms a once fits),
-      c .before .before .day-segments .ensures .1,
+          visited-as (s .args .text .now) room (s .args .used) (s .args .words .now) TimedRows (c .before .before .applications2 .result) (c .before .before .applications2 .last .1 .1 .1 .1 .1 .0) (ap (λ t. body (aTimed ts) t (bytes "t" ∷ []) p (entriesOf ms) (leftOf room (s .args .used))) (k)) (c .before .before .applications2 .ensures .0 ts room p ms a once fits),
+      c .before .before .applications2 .ensures .1,
     )
 
 pub plain-timed-spec : {M : Type 1} → statement M
@@ -59,8 +59,8 @@ plain-timed-spec =
     tie.close
     (tie.spec
     dosage-only-requires
-    times-requires
-    day-segments-requires
+    applications-requires
+    applications-requires-2
     same-length
     returns
     same-length-2

@@ -48,13 +48,13 @@ returns-2 c =
       kept-refused 1 (s .args .used) refl refl,
     )
 
-week-days-requires : tie.Need-week-days-requires
-week-days-requires c κs =
+on-days-requires : tie.Need-on-days-requires
+on-days-requires c κs =
     let s = c .before .before .before .before .before .before .before .before .before .before in
     (s .pre .0, c .before .before .before .open-timed .ensures .1 .few (c .before .before .if1 .left), omega (arith, c .before .before .before .before .before .before .before .object-field .ensures .1 _ (c .before .before .before .before .before .f .given .1)))
 
-days-of-month-requires : tie.Need-days-of-month-requires
-days-of-month-requires c κs =
+on-days-requires-2 : tie.Need-on-days-requires-2
+on-days-requires-2 c κs =
     let s = c .before .before .before .before .before .before .before .before .before .before in
     (s .pre .0, c .before .before .before .open-timed .ensures .1 .few (c .before .before .if1 .left), omega (arith, c .before .before .before .before .before .before .before .object-field .ensures .1 _ (c .before .before .before .before .before .f .given .1)))
 
@@ -78,10 +78,10 @@ returns-3 c =
       λ room f slot fits.
           let x = finds-child _ _ (c .before .before .before .before .before .before .before .before .before .before .object-field .ensures .0 (s .pre .1) f slot) (c .before .before .before .before .before .before .before .before .f .given .1) in
           let o = c .before .before .before .before .before .before .open-timed .ensures .0 (x .place) (x .inner) (x .stands) in
-          visited-as (s .args .text .now) room (s .args .used) (s .args .words .now) TimedRows (c .before .before .week-days .result) (c .before .before .week-days .last .1 .1 .1 .1 .0)
+          visited-as (s .args .text .now) room (s .args .used) (s .args .words .now) TimedRows (c .before .before .on-days .result) (c .before .before .on-days .last .1 .1 .1 .1 .1 .0)
           (x .outcome (aTimed (typesUnder (s .args .parent))) (leftOf room (s .args .used)) ∙ under-as o _ (x .place) (leftOf room (s .args .used)) (c .before .before .before .before .before .if1 .left) (c .before .before .before .before .match2 .keys1) (object-at (x .stands)))
-          (c .before .before .week-days .ensures .0 (typesUnder (s .args .parent)) room (x .place) (x .inner) (x .stands) (o .settled (c .before .before .before .before .before .if1 .left)) fits),
-      c .before .before .week-days .ensures .1,
+          (c .before .before .on-days .ensures .0 (typesUnder (s .args .parent)) room (x .place) (x .inner) (x .stands) (o .settled (c .before .before .before .before .before .if1 .left)) fits),
+      c .before .before .on-days .ensures .1,
     )
 
 same-length-2 : tie.Need-same-length-2
@@ -93,10 +93,10 @@ returns-4 c =
       λ room f slot fits.
           let x = finds-child _ _ (c .before .before .before .before .before .before .before .before .before .before .object-field .ensures .0 (s .pre .1) f slot) (c .before .before .before .before .before .before .before .before .f .given .1) in
           let o = c .before .before .before .before .before .before .open-timed .ensures .0 (x .place) (x .inner) (x .stands) in
-          visited-as (s .args .text .now) room (s .args .used) (s .args .words .now) TimedRows (c .before .before .days-of-month .result) (c .before .before .days-of-month .last .1 .1 .1 .1 .0)
+          visited-as (s .args .text .now) room (s .args .used) (s .args .words .now) TimedRows (c .before .before .on-days2 .result) (c .before .before .on-days2 .last .1 .1 .1 .1 .1 .0)
           (x .outcome (aTimed (typesUnder (s .args .parent))) (leftOf room (s .args .used)) ∙ under-as o _ (x .place) (leftOf room (s .args .used)) (c .before .before .before .before .before .if1 .left) (c .before .before .before .before .match2 .keys2) (object-at (x .stands)))
-          (c .before .before .days-of-month .ensures .0 (typesUnder (s .args .parent)) room (x .place) (x .inner) (x .stands) (o .settled (c .before .before .before .before .before .if1 .left)) fits),
-      c .before .before .days-of-month .ensures .1,
+          (c .before .before .on-days2 .ensures .0 (typesUnder (s .args .parent)) room (x .place) (x .inner) (x .stands) (o .settled (c .before .before .before .before .before .if1 .left)) fits),
+      c .before .before .on-days2 .ensures .1,
     )
 
 same-length-3 : tie.Need-same-length-3
@@ -140,8 +140,8 @@ read-timed-spec =
     returns
     open-timed-requires
     returns-2
-    week-days-requires
-    days-of-month-requires
+    on-days-requires
+    on-days-requires-2
     interval-requires
     plain-timed-requires
     same-length

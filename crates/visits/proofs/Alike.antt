@@ -1,0 +1,28 @@
+-- Objects that are read alike, two by two: what each makes, and what holds of the one that is asked for.
+use Prim.Native.Nat.{ℕ, _<_}
+use mathlib.Core.Path.{_≡_, sym, subst}
+use mathlib.Core.List.{List}
+use mathlib.Core.Bool.{Bool, true, false, cond}
+use Rattle.document.specs.Posology as P
+use Rattle.document.specs.Schema.{OfFamily}
+use Rattle.visits.specs.Visiting.{anApplication}
+
+abbrev pub application : (timed : Bool) → P.Dosage → ℕ → OfFamily (anApplication timed)
+application true d dt = P.atTime d dt
+application false d s = P.inSegment d s
+
+abbrev pub withApplications : (timed : Bool) → List (OfFamily (anApplication timed)) → P.Timed
+withApplications true ts = P.times ts
+withApplications false ss = P.daySegments ss
+
+abbrev pub onDays : Bool → List ℕ → P.Timed → P.Timed
+onDays true ds td = P.weekDays ds td
+onDays false ds td = P.daysOfMonth ds td
+
+-- What holds of each of two numbers holds of the one that is picked.
+pub either : (P : Bool → ℕ → Type 0) (first : Bool) {a b k : ℕ} → k ≡ cond first a b → P true a → P false b → P first k
+either P true e x y = subst (λ (k : ℕ). P true k) (sym e) x
+either P false e x y = subst (λ (k : ℕ). P false k) (sym e) y
+
+pub name-small : (first : Bool) {a b k : ℕ} → k ≡ cond first a b → a < 33 → b < 33 → k < 33
+name-small first e = either (λ _ k. k < 33) first e
