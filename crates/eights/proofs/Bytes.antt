@@ -6,7 +6,8 @@ use native.Mathlib.Omega.{arith}
 use native.Mathlib.Nat.{add-zero}
 use native.Mathlib.Numerals.{add-one}
 use lib.ListN.{length, drop, getD, set, drop-of-length-le}
-use lib.Seq.{drop-cons, sets, sets-eq, getD-drop, drop-drop, drop-length}
+use lib.Seq.{sets, sets-eq, getD-drop, drop-drop, drop-length}
+use Rattle.json.proofs.Moves.{byte-here}
 use Rattle.eights.specs.Eights.{bytesOf, allBytes, numberIn}
 
 -- Bytes stored in two goes.
@@ -106,5 +107,5 @@ pub number-next : (ws l m : List ℕ) (from i : ℕ) → i < length ws → m ≡
     → sets m (from + (i + 1) * 8) (allBytes (drop (i + 1) ws)) ≡ sets l (from + i * 8) (allBytes (drop i ws))
 number-next ws l m from i h e =
     let at : from + (i + 1) * 8 ≡ from + i * 8 + 8 = omega arith in
-    rw (e, at, add-one)
-    (sym (number-first (getD ws i 0) (drop (suc i) ws) l (from + i * 8)) ∙ ap (λ (s : List ℕ). sets l (from + i * 8) (allBytes s)) (sym (drop-cons ws i 0 h)))
+    rw (e, at)
+    (sym (number-first (getD ws i 0) (drop (i + 1) ws) l (from + i * 8)) ∙ ap (λ (s : List ℕ). sets l (from + i * 8) (allBytes s)) (sym (byte-here ws i h)))

@@ -1,6 +1,7 @@
 // Dates and times of day by the bytes that they are written with (document 01, "Dates").
 use document::dates::is_day;
 use document::table::Date;
+use scan::byte::wide;
 ghost use mathlib.Core.Path.{_≡_};
 ghost use Prim.Native.Nat.{_+_, _≤_};
 ghost use lib.ListN.{drop};
@@ -28,12 +29,6 @@ pub enum Pair {
 pub enum Day {
     Is { year: u64, month: u64, day: u64 },
     Not,
-}
-
-fn wide(b: u8) -> u64
-    ensures { λ r. ⌜ r ≡ b ⌝ }
-{
-    b as u64
 }
 
 fn is_digit(b: u8) -> bool

@@ -9,22 +9,14 @@ use Rattle.document.specs.Valid.{isUse}
 use Rattle.document.specs.Write.{Write, writes, refuses, write, writing, bufferAfter}
 use Rattle.document.specs.declared.table.Table.{Table}
 use Rattle.document.specs.declared.table.Writing.{Writing}
-use Rattle.document.specs.declared.table.Writing.the-variants as W
+use Rattle.telling.specs.Telling.{toldWriting}
+use Rattle.telling.specs.declared.Told.{Told}
 use Rattle.area.specs.Area.{areaBytes, tableIn, isArea}
 use Rattle.hospital.specs.Calls.{calledWrite, writeNumber, writePlace}
 
 -- What a call leaves: its number, the place and the buffer.
 abbrev Left : List ℕ → Write → ℕ → ℕ → List ℕ → Type 0
 Left out x n p out′ = (n ≡ writeNumber x) × ((p ≡ writePlace x) × (out′ ≡ bufferAfter x out))
-
--- What the answer tells.
-abbrev answerNumber : Writing → ℕ
-answerNumber (W.Written n) = 0
-answerNumber (W.Refused n p) = n
-
-abbrev answerPlace : Writing → ℕ
-answerPlace (W.Written n) = n
-answerPlace (W.Refused n p) = p
 
 module _ (purpose : ℕ) (area strings out : List ℕ) where
   abbrev call : Write
@@ -49,12 +41,12 @@ module _ (purpose : ℕ) (area strings out : List ℕ) where
       sized a = rw (eq-eqb _ _ h, u, a)
 
       module _ (w : Writing) (out′ : List ℕ) where
-        by-answer : (x : Write) → w ≡ writing x → out′ ≡ bufferAfter x out → Left out x (answerNumber w) (answerPlace w) out′
-        by-answer (writes bytes) q s = (ap answerNumber q, (ap answerPlace q, s))
-        by-answer (refuses n p) q s = (ap answerNumber q, (ap answerPlace q, s))
+        by-answer : (x : Write) → w ≡ writing x → out′ ≡ bufferAfter x out → Left out x (toldWriting w .number) (toldWriting w .place) out′
+        by-answer (writes bytes) q s = (ap (λ (v : Writing). toldWriting v .number) q, (ap (λ (v : Writing). toldWriting v .place) q, s))
+        by-answer (refuses n p) q s = (ap (λ (v : Writing). toldWriting v .number) q, (ap (λ (v : Writing). toldWriting v .place) q, s))
 
-        pub answered : (v : Writing) (t : Table) → t ≡ tableIn area → w ≡ v → isArea area ≡ true → w ≡ writing (write purpose t strings (length out)) → out′ ≡ bufferAfter (write purpose t strings (length out)) out
-            → Left out call (answerNumber v) (answerPlace v) out′
-        answered v t f g a e s =
+        pub answered : (t : Table) {told : Told} → t ≡ tableIn area → told ≡ toldWriting w → isArea area ≡ true → w ≡ writing (write purpose t strings (length out)) → out′ ≡ bufferAfter (write purpose t strings (length out)) out
+            → Left out call (told .number) (told .place) out′
+        answered t f g a e s =
             let x : write purpose t strings (length out) ≡ call = ap (λ (u : Table). write purpose u strings (length out)) f ∙ sized a in
-            rw (← g) (by-answer call (e ∙ ap writing x) (s ∙ ap (λ (y : Write). bufferAfter y out) x))
+            rw g (by-answer call (e ∙ ap writing x) (s ∙ ap (λ (y : Write). bufferAfter y out) x))

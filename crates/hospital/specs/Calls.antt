@@ -9,6 +9,9 @@ use Rattle.document.specs.Valid.{isUse, roomOf}
 use Rattle.document.specs.Table.{tableOf}
 use Rattle.document.specs.Answer.{Read, taken, refused, read, ReadNext, takenTo, blankTo, refusedAt, readNext}
 use Rattle.document.specs.Write.{Write, writes, refuses, write}
+use Rattle.document.specs.declared.table.NextAnswer.{NextAnswer}
+use Rattle.document.specs.declared.table.NextAnswer.the-variants as N
+use Rattle.telling.specs.Telling.{onlyBlanks}
 use Rattle.area.specs.Area.{areaBytes, areaOf, tableIn, isArea}
 
 -- "An area of another size is 19 with that size as the place, before all else"
@@ -35,10 +38,6 @@ calledNext purpose run room area =
     choose (eqb area areaBytes) (λ _. readNext purpose (roomOf room) run) λ _.
     refusedAt 19 areaBytes
 
--- The number of "only blanks remain".
-abbrev pub onlyBlanks : ℕ
-onlyBlanks = 255
-
 abbrev pub nextNumber : ReadNext → ℕ
 nextNumber (takenTo p e) = 0
 nextNumber (blankTo n) = onlyBlanks
@@ -53,6 +52,11 @@ unfoldable pub nextAreaAfter : ReadNext → List ℕ → List ℕ
 nextAreaAfter (takenTo p e) area = areaOf (tableOf p)
 nextAreaAfter (blankTo n) area = area
 nextAreaAfter (refusedAt n place) area = area
+
+abbrev pub laidNext : NextAnswer → List ℕ → List ℕ → List ℕ
+laidNext (N.Taken e) laid area = laid
+laidNext (N.Blank n) laid area = area
+laidNext (N.Refused n p) laid area = area
 
 -- "Writer: 17, 18, 19", and "bytes that lay out no table are 18"
 unfoldable pub calledWrite : ℕ → List ℕ → List ℕ → ℕ → Write

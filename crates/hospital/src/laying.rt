@@ -1,4 +1,5 @@
 // What was read, laid into the lent area without a table between them.
+use document::table::NextAnswer;
 use document::table::WORDS;
 use heads::head::HeadRead;
 ghost use mathlib.Core.Path.{_≡_};
@@ -7,6 +8,7 @@ ghost use lib.Dec.{eqb};
 ghost use lib.ListN.{length};
 ghost use Rattle.area.specs.Area.{areaOf, areaBytes};
 ghost use Rattle.building.specs.Built.{built};
+ghost use Rattle.hospital.specs.Calls.{laidNext};
 
 pub(crate) fn lay_read(h: HeadRead, rows: &mut [u64; WORDS], table: &mut [u8])
     ensures { λ _. ⌜ now (table .exit) ≡ cond (eqb (length (now (table .entry))) areaBytes) (areaOf (built h (now (rows .entry)))) (now (table .entry)) ⌝ }
@@ -20,4 +22,18 @@ pub(crate) fn lay_read(h: HeadRead, rows: &mut [u64; WORDS], table: &mut [u8])
         rows,
         table,
     );
+}
+
+// Only a posology that was taken is laid.
+pub(crate) fn lay_next(answer: NextAnswer, h: HeadRead, rows: &mut [u64; WORDS], table: &mut [u8])
+    ensures { λ _. ⌜ now (table .exit) ≡ laidNext answer (cond (eqb (length (now (table .entry))) areaBytes) (areaOf (built h (now (rows .entry)))) (now (table .entry))) (now (table .entry)) ⌝ }
+{
+    match answer {
+        NextAnswer::Taken { end: _ } => lay_read(h, rows, table),
+        NextAnswer::Blank { length: _ } => {}
+        NextAnswer::Refused {
+            number: _,
+            place: _,
+        } => {}
+    }
 }

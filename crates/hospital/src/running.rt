@@ -1,13 +1,10 @@
 // The first posology of a run into the lent area.
 use crate::laying;
-use document::table::NextAnswer;
 use document::table::WORDS;
 ghost use mathlib.Core.Path.{_≡_};
 ghost use lib.ListN.{length};
 ghost use Rattle.document.specs.Answer.{nextBufferAfter};
 ghost use Rattle.hospital.specs.Calls.{calledNext, nextNumber, nextPlace, nextAreaAfter};
-
-const ONLY_BLANKS: u64 = 255;
 
 #[no_mangle]
 pub extern "C" fn posology_next(
@@ -29,19 +26,8 @@ pub extern "C" fn posology_next(
     let mut rows = [0u64; WORDS];
     let w = posology::next_words(run, purpose, strings, &mut rows);
     let answer = w.answer;
-    match answer {
-        NextAnswer::Taken { end } => {
-            laying::lay_read(w.head, &mut rows, table);
-            *place = end as u64;
-            0
-        }
-        NextAnswer::Blank { length } => {
-            *place = length as u64;
-            ONLY_BLANKS
-        }
-        NextAnswer::Refused { number, place: at } => {
-            *place = at as u64;
-            number as u64
-        }
-    }
+    laying::lay_next(answer, w.head, &mut rows, table);
+    let told = telling::told_next(answer);
+    *place = told.place;
+    told.number
 }

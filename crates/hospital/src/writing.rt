@@ -1,5 +1,4 @@
 // The table of the lent area as its plain text.
-use document::table::Writing;
 use document::uses::is_use;
 ghost use mathlib.Core.Path.{_≡_};
 ghost use lib.ListN.{length};
@@ -30,14 +29,7 @@ pub extern "C" fn posology_write(
         return 18;
     }
     let w = writer::write(held::table_in(table), strings, purpose, out);
-    match w {
-        Writing::Written { length } => {
-            *place = length as u64;
-            0
-        }
-        Writing::Refused { number, place: at } => {
-            *place = at as u64;
-            number as u64
-        }
-    }
+    let told = telling::told_writing(w);
+    *place = told.place;
+    told.number
 }

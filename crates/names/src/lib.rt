@@ -1,4 +1,5 @@
 // The names of document 01's members, and where each stands in an object. One walk over an object's members settles them all.
+use scan::byte::wide;
 use scan::string as spelled;
 ghost use mathlib.Core.Path.{_≡_};
 ghost use mathlib.Core.Bool.{true};
@@ -139,12 +140,6 @@ fn with_letter(p: Packed, n: usize, b: u8) -> Packed
         head: p.head,
         tail: 0,
     }
-}
-
-fn wide(b: u8) -> u64
-    ensures { λ r. ⌜ r ≡ b ⌝ }
-{
-    b as u64
 }
 
 fn packed_decoded(text: &[u8], quote: usize) -> Packed

@@ -50,24 +50,10 @@ fn all(word: &[u8], run: &[u8], strings: &mut [u8], out: &mut [u8]) -> Going {
     g
 }
 
-fn same(a: &[u8], b: &[u8]) -> bool {
-    if a.len() != b.len() {
-        return false;
-    }
-    let mut i = 0;
-    while i < a.len() {
-        if a[i] != b[i] {
-            return false;
-        }
-        i += 1;
-    }
-    true
-}
-
 // Whether the texts of a run come to the bytes that were written before.
 fn once_more(word: &[u8], run: &[u8], written: &[u8], strings: &mut [u8], out: &mut [u8]) {
     let g = all(word, run, strings, out);
-    if same(written, part(out, 0, g.length)) {
+    if check::same(written, part(out, 0, g.length)) {
         io::write_all(1, b"the same bytes\n");
         return;
     }

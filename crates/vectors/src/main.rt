@@ -60,20 +60,6 @@ fn first(bytes: &[u8], n: usize) -> &[u8] {
     &bytes[..n]
 }
 
-fn same(a: &[u8], b: &[u8]) -> bool {
-    if a.len() != b.len() {
-        return false;
-    }
-    let mut i = 0;
-    while i < a.len() {
-        if a[i] != b[i] {
-            return false;
-        }
-        i += 1;
-    }
-    true
-}
-
 // Whether reading a plain text and writing what was read gives it again.
 fn comes_back(plain: &[u8], purpose: u64) -> bool {
     let mut strings = [0u8; 2048];
@@ -82,7 +68,7 @@ fn comes_back(plain: &[u8], purpose: u64) -> bool {
     let t = r.table;
     let w = writer::write(t, &strings, purpose, &mut again);
     match w {
-        Writing::Written { length } => same(plain, first(&again, length)),
+        Writing::Written { length } => check::same(plain, first(&again, length)),
         Writing::Refused {
             number: _,
             place: _,

@@ -27,38 +27,20 @@ table-in-requires c κs = search needs
 write-requires : tie.Need-write-requires
 write-requires c κs = search needs
 
-enum-known-w : tie.Need-enum-known-w
-enum-known-w c = search needs
-
-enum-known-w-2 : tie.Need-enum-known-w-2
-enum-known-w-2 c = search needs
-
-cast-result : tie.Need-cast-result
-cast-result c = search needs
+told-writing-requires : tie.Need-told-writing-requires
+told-writing-requires c κs = search needs
 
 same-length : tie.Need-same-length
 same-length c = search needs
 
 returns-4 : tie.Need-returns-4
 returns-4 c =
-    let s = c .before .before .before .before .before .before .before .before .before .before .before .before .before .before .before .before in
-    let used = sym (c .before .before .before .before .before .before .before .before .before .before .before .is-use .ensures) ∙ not-false _ (c .before .before .before .before .before .before .before .before .before .before .if2 .left) in
-    let an-area = sym (c .before .before .before .before .before .before .before .before .before .is-area .ensures) ∙ not-false _ (c .before .before .before .before .before .before .before .before .if3 .left) in
-    let table = c .before .before .before .before .before .before .before .table-in in
-    let write = c .before .before .before .before .before .write in
-    answered (s .args .purpose) (s .args .table .now) (s .args .strings .now) (s .args .out .now) (c .before .before .before .before .before .before .before .before .before .before .before .before .if1 .left) used (write .result) (write .last .1 .1 .1 .0) _ (table .result) (table .ensures) (c .before .w .given .1) an-area (write .ensures .result) (write .ensures .left)
-
-same-length-2 : tie.Need-same-length-2
-same-length-2 c = search needs
-
-returns-5 : tie.Need-returns-5
-returns-5 c =
-    let s = c .before .before .before .before .before .before .before .before .before .before .before .before .before .before .before .before in
-    let used = sym (c .before .before .before .before .before .before .before .before .before .before .before .is-use .ensures) ∙ not-false _ (c .before .before .before .before .before .before .before .before .before .before .if2 .left) in
-    let an-area = sym (c .before .before .before .before .before .before .before .before .before .is-area .ensures) ∙ not-false _ (c .before .before .before .before .before .before .before .before .if3 .left) in
-    let table = c .before .before .before .before .before .before .before .table-in in
-    let write = c .before .before .before .before .before .write in
-    answered (s .args .purpose) (s .args .table .now) (s .args .strings .now) (s .args .out .now) (c .before .before .before .before .before .before .before .before .before .before .before .before .if1 .left) used (write .result) (write .last .1 .1 .1 .0) _ (table .result) (table .ensures) (c .before .w2 .given .1) an-area (write .ensures .result) (write .ensures .left)
+    let s = c .before .before .before .before .before .before .before .before .before .before .before .before .before .before in
+    let used = sym (c .before .before .before .before .before .before .before .before .before .is-use .ensures) ∙ not-false _ (c .before .before .before .before .before .before .before .before .if2 .left) in
+    let an-area = sym (c .before .before .before .before .before .before .before .is-area .ensures) ∙ not-false _ (c .before .before .before .before .before .before .if3 .left) in
+    let table = c .before .before .before .before .before .table-in in
+    let write = c .before .before .before .write in
+    answered (s .args .purpose) (s .args .table .now) (s .args .strings .now) (s .args .out .now) (c .before .before .before .before .before .before .before .before .before .before .if1 .left) used (write .result) (write .last .1 .1 .1 .0) (table .result) (table .ensures) (c .told-writing .ensures) an-area (write .ensures .result) (write .ensures .left)
 
 pub posology-write-spec : {M : Type 1} → statement M
 posology-write-spec =
@@ -71,10 +53,6 @@ posology-write-spec =
     returns-3
     table-in-requires
     write-requires
-    enum-known-w
-    enum-known-w-2
-    cast-result
+    told-writing-requires
     same-length
-    returns-4
-    same-length-2
-    returns-5)
+    returns-4)
