@@ -1,5 +1,5 @@
 -- Answers that decide, and what records of a timed dosage tell.
-use mathlib.Core.Path.{_≡_, subst}
+use mathlib.Core.Path.{_≡_, refl, subst}
 use mathlib.Core.List.{List}
 use mathlib.Core.Bool.{Bool, true, false, true≢false, false≢true}
 use Prim.Native.Nat.{ℕ, _+_, _≤_, _<_}
@@ -7,6 +7,13 @@ use native.Mathlib.Omega.{arith}
 use lib.Dec.{leb}
 use borrow.Author.Tests.{leb-true, leb-false}
 use Rattle.doses.specs.Doses.{Decides, Row, Rising, DosageAt, simple, fromTo, range, ApplicationAt, ApplicationsAt, none, more, ListedAt, PlainAt, dosageOnly, times, segments, DaysAt, IntervalAt, TimedAt, plain, interval, weekDays, daysOfMonth, SingleAt, CyclicAt, StillAt, daily, single, cyclic}
+
+-- Two answers that are allowed are equal.
+pub decides-one : {P : Type 0} (r q : Bool) → Decides P r → Decides P q → r ≡ q
+decides-one true true d e = refl
+decides-one true false d e = absurd (e .no refl (d .yes refl))
+decides-one false true d e = absurd (d .no refl (e .yes refl))
+decides-one false false d e = refl
 
 pub yes-of : {P : Type 0} → P → Decides P true
 yes-of p = record { yes = λ e. p; no = λ e. absurd (true≢false e) }
