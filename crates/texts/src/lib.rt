@@ -31,7 +31,7 @@ pub fn one_text(text: &[u8], purpose: u64) -> OneText
     if LONGEST < text.len() {
         return OneText::Refused(1, LONGEST);
     }
-    match walk::one_object(text) {
+    match alone::one_object(text) {
         End::At(_) => OneText::Walked,
         End::Bad(p) => OneText::Refused(2, p),
         End::Deep(p) => OneText::Refused(3, p),

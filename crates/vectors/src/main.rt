@@ -149,7 +149,7 @@ fn answer_walk(text: &[u8], run: bool) {
     if run {
         say_walked(walk::first_object(text));
     } else {
-        say_walked(walk::one_object(text));
+        say_walked(alone::one_object(text));
     }
 }
 

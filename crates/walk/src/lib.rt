@@ -1,4 +1,4 @@
-// The walk over a text: whether it is one object, and where that ends (document 01, refusals 2 and 3).
+// The walk over a text: whether it begins with an object, and where that ends (document 01, refusals 2 and 3).
 use json::part::Part;
 use scan::byte;
 use scan::string;
@@ -9,7 +9,7 @@ ghost use Prim.Native.Nat.{suc, _<_, _≤_};
 ghost use lib.ListN.{length, drop, getD};
 ghost use Rattle.json.specs.Byte.{isBlank};
 ghost use Rattle.json.specs.Part.{wordStop, Stops};
-ghost use Rattle.json.specs.Walk.{walk, anObject, firstObject, oneObject};
+ghost use Rattle.json.specs.Walk.{walk, anObject, firstObject};
 ghost use Rattle.json.specs.Walk as W;
 ghost use Rattle.walk.specs.Turn.{modeOf, kind, afterComma, closerOf, frames, Open, steps, behindPart, plainStop, behindQuoted, closesEmpty, takesValue, Byte, Turned, Tells};
 
@@ -341,21 +341,4 @@ pub fn first_object(text: &[u8]) -> End
         return End::Bad(start);
     }
     inside_end(text, start + 1)
-}
-
-// The one object that all of the text is, blanks aside.
-pub fn one_object(text: &[u8]) -> End
-    ensures { λ r. ⌜ Tells (now (text .entry)) (oneObject (now (text .entry))) r ⌝ }
-{
-    match first_object(text) {
-        End::At(e) => {
-            let p = byte::blanks_end(text, e);
-            if p < text.len() {
-                return End::Bad(p);
-            }
-            End::At(e)
-        }
-        End::Bad(p) => End::Bad(p),
-        End::Deep(p) => End::Deep(p),
-    }
 }

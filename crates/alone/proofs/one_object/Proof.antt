@@ -5,8 +5,8 @@ use lib.ListN.{drop-of-length-le}
 use lib.Seq.{drop-cons}
 use Rattle.json.specs.Walk.{oneObject}
 use borrow.Author.Needs.{needs}
-use Rattle.walk.proofs.one_object.Statement.{statement}
-use Rattle.walk.proofs.one_object.Tie as tie
+use Rattle.alone.proofs.one_object.Statement.{statement}
+use Rattle.alone.proofs.one_object.Tie as tie
 
 first-object-requires : tie.Need-first-object-requires
 first-object-requires c κs = search needs
