@@ -10,7 +10,7 @@ use Rattle.json.specs.Rows.{choose}
 use Rattle.document.specs.Date.{among}
 use Rattle.document.specs.Visit.{isEmpty, distinct, inserted, ascending}
 use Rattle.document.specs.Valid.{climbs, isDays, every}
-use Rattle.json.proofs.Truth.{and-both, and-left, and-right}
+use Rattle.json.proofs.Truth.{and-both, and-left, and-right, and-left-comm, or-left-comm}
 
 or-false-left : (a b : Bool) → (a || b) ≡ false → a ≡ false
 or-false-left true b h = h
@@ -19,11 +19,6 @@ or-false-left false b h = refl
 or-false-right : (a b : Bool) → (a || b) ≡ false → b ≡ false
 or-false-right true b h = absurd (true≢false h)
 or-false-right false b h = h
-
-or-left-comm : (a b c : Bool) → (a || (b || c)) ≡ (b || (a || c))
-or-left-comm true true c = refl
-or-left-comm true false c = refl
-or-left-comm false b c = refl
 
 among-inserted : (x d : ℕ) (es : List ℕ) → among x (inserted d es) ≡ (eqb x d || among x es)
 among-inserted x d [] = refl
@@ -83,14 +78,9 @@ every-inserted : (test : ℕ → Bool) (d : ℕ) (es : List ℕ) → every test 
 every-inserted test d [] = refl
 every-inserted test d (e ∷ es) = go (every-inserted test d es) (leb d e)
   where
-    swap : (a b c : Bool) → (a && (b && c)) ≡ (b && (a && c))
-    swap true b c = refl
-    swap false true c = refl
-    swap false false c = refl
-
     go : every test (inserted d es) ≡ (test d && every test es) → (b : Bool) → every test (choose b (λ _. d ∷ e ∷ es) (λ _. e ∷ inserted d es)) ≡ (test d && (test e && every test es))
     go ih true = refl
-    go ih false = ap (λ (c : Bool). test e && c) ih ∙ swap (test e) (test d) (every test es)
+    go ih false = ap (λ (c : Bool). test e && c) ih ∙ and-left-comm (test e) (test d) (every test es)
 
 pub every-ascending : (test : ℕ → Bool) (ds : List ℕ) → every test (ascending ds) ≡ every test ds
 every-ascending test [] = refl
