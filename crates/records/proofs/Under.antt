@@ -10,7 +10,7 @@ use lib.ListN.{getD}
 use Rattle.document.specs.Date.{among}
 use Rattle.document.specs.Schema.{underCyclic}
 use Rattle.records.specs.Under.{typesUnder}
-use Rattle.json.proofs.Truth.{and-left, and-right}
+use Rattle.json.proofs.Truth.{and-left, and-right, never-true}
 
 -- A test of every number below one, and what it says of each.
 abbrev all-below : ℕ → (ℕ → Bool) → Bool
@@ -86,12 +86,8 @@ types-to-6 parent kind h = among-within 1 6 kind (typesUnder parent) (types-with
 pub types-to-3 : (kind : ℕ) → among kind (typesUnder 1) ≡ true → (1 ≤ kind) × (kind ≤ 3)
 types-to-3 kind h = among-within 1 3 kind (typesUnder 1) refl h
 
-no-true : (b : Bool) → (b ≡ true → ⊥) → false ≡ b
-no-true true h = absurd (h refl)
-no-true false h = refl
-
 pub none-behind-6 : (parent kind : ℕ) → 6 < kind → false ≡ among kind (typesUnder parent)
-none-behind-6 parent kind h = no-true _ (λ a. omega (arith, types-to-6 parent kind a .1))
+none-behind-6 parent kind h = never-true _ (λ a. omega (arith, types-to-6 parent kind a .1))
 
 pub none-behind-4 : (parent kind : ℕ) → 4 < parent → false ≡ among kind (typesUnder parent)
 none-behind-4 parent kind h =
