@@ -1,7 +1,7 @@
 -- What is checked of a table is what makes it readable.
-use mathlib.Core.Path.{_≡_, refl, ap, sym, subst, _∙_}
+use mathlib.Core.Path.{_≡_, ap, sym, subst, _∙_}
 use mathlib.Core.List.{List, [], _∷_, _++_}
-use mathlib.Core.Bool.{Bool, true, false}
+use mathlib.Core.Bool.{true}
 use Prim.Native.Nat.{ℕ, _+_, _*_, _-_, _≤_}
 use native.Mathlib.Omega.{arith}
 use lib.ListN.{length, drop, replicate, length-replicate}
@@ -166,7 +166,3 @@ laid-readable purpose t ws buffer e n r l =
     let d = detail-is (l .detail) in
     value-readable ws buffer (t .head) (l .taken) (q .u₁) (q .u₂) (q .u₃) (t .text) d (piece-is (q .unit)) (piece-is (q .instructions)) (piece-is (q .roa)) (piece-is (q .moa))
     purpose (t .count) (t .records) e n r (omega (arith, l .counted, d .count)) (l .fits) (l .room) (l .zeros)
-
-pub not-readable : (b : Bool) → (b ≡ true → ⊥) → false ≡ b
-not-readable true f = absurd (f refl)
-not-readable false f = refl

@@ -1,7 +1,7 @@
 -- UTF-8, one byte after the other.
 use mathlib.Core.Path.{_≡_, refl, ap, sym, _∙_}
 use mathlib.Core.List.{List, [], _∷_}
-use mathlib.Core.Bool.{Bool, true, false, _&&_, true≢false, false≢true}
+use mathlib.Core.Bool.{Bool, true, false, true≢false, false≢true}
 use mathlib.Core.Option.{some}
 use Prim.Native.Nat.{ℕ, zero, suc, _+_, _-_, _≤_, _<_}
 use native.Mathlib.Omega.{arith}
@@ -28,18 +28,10 @@ none-before s b (suc n) low high e = absurd (omega arith)
 pub first-leaves : (s : List ℕ) (b : ℕ) (t r : Tail) → t .left ≡ 0 → follows r ≡ look b followRows → Leaves s b t r
 first-leaves s b t r e f = none-before s b (t .left) (t .low) (t .high) e ∙ ap (λ o. goOn o (λ ws. wellFormed s ws)) (sym f)
 
-and-false : (a b : Bool) → a ≡ false → (a && b) ≡ false
-and-false true b e = absurd (true≢false e)
-and-false false b e = refl
-
-and-true : (a b : Bool) → a ≡ true → (a && b) ≡ b
-and-true true b e = refl
-and-true false b e = absurd (false≢true e)
-
 out : (low high b : ℕ) (s : List ℕ) (n : ℕ) → (n ≡ 0 → ⊥) → within low (suc high) b ≡ false → wellFormed (b ∷ s) (following n low high) ≡ false
 unfolding wellFormed
 out low high b s zero e f = absurd (e refl)
-out low high b s (suc n) e f = and-false (within low (suc high) b) _ f
+out low high b s (suc n) e f = rw f
 
 in-low : (low high b : ℕ) → b < low → within low (suc high) b ≡ false
 unfolding within look
@@ -62,10 +54,10 @@ high-leaves s b t e g h = out (t .low) (t .high) b s (t .left) e (in-high (t .lo
 one-less : (s : List ℕ) (b n low high : ℕ) → (n ≡ 0 → ⊥) → within low (suc high) b ≡ true → wellFormed (b ∷ s) (following n low high) ≡ wellFormed s (following (n - 1) 0x80 0xBF)
 unfolding wellFormed
 one-less s b zero low high e f = absurd (e refl)
-one-less s b (suc zero) low high e f = and-true (within low (suc high) b) _ f
+one-less s b (suc zero) low high e f = rw f
 one-less s b (suc (suc n)) low high e f =
     let m : suc n ≡ suc (suc n) - 1 = omega arith in
-    and-true (within low (suc high) b) _ f ∙ ap (λ k. wellFormed s (following k 0x80 0xBF)) m
+    rw f (ap (λ k. wellFormed s (following k 0x80 0xBF)) m)
 
 pub inner-leaves : (s : List ℕ) (b : ℕ) (t r : Tail) → (t .left ≡ 0 → ⊥) → t .low ≤ b → b ≤ t .high → follows r ≡ some (following (t .left - 1) 0x80 0xBF) → Leaves s b t r
 inner-leaves s b t r e g h f = one-less s b (t .left) (t .low) (t .high) e (in-both (t .low) (t .high) b g h) ∙ ap (λ o. goOn o (λ ws. wellFormed s ws)) (sym f)
