@@ -1,4 +1,4 @@
--- A function that has a table is the same at all numbers between two of its bounds.
+-- A number that a test finds between two bounds is there; and a function that has a table is the same at all numbers between two of its bounds.
 use Prim.Native.Nat.{ℕ, _≤_, _<_}
 use mathlib.Core.Path.{_≡_, refl, ap, _∙_}
 use mathlib.Core.List.{List}
@@ -9,6 +9,9 @@ use borrow.Author.Tests.{leb-true, lt-ltb, le-ltb}
 use Rattle.json.specs.Rows.{Rows, else, below, look}
 use Rattle.spelling.proofs.Tables.{rowsFrom}
 use Rattle.json.proofs.Truth.{and-left, and-right}
+
+pub in-range : (lo n hi : ℕ) → (leb lo n && leb n hi) ≡ true → (lo ≤ n) × (n ≤ hi)
+in-range lo n hi h = (leb-true lo n (and-left (leb lo n) (leb n hi) h), leb-true n hi (and-right (leb lo n) (leb n hi) h))
 
 -- No bound lies inside.
 abbrev pub flat : {A : Type 0} → ℕ → ℕ → Rows A → Bool

@@ -11,6 +11,7 @@ use Rattle.document.specs.Posology.{Day, Zone, east, west, Date, bare, m
 use Rattle.document.specs.Date.{among, leap, daysIn, isDay, isZone, isSecond, isDate, isDigit, pair, Behind, two, then, only, clock, seconds, timeOf, dayOf, minutesWest, zone, dateOf}
 use Rattle.document.specs.Plain as P
 use Rattle.json.proofs.Truth.{and-both, and-left, and-right, cond-true}
+use Rattle.document.proofs.Ranges.{in-range}
 
 then-to : {A B : Type 0} (o : Option A) (a : A) (f : A → Option B) (z : Option B) → o ≡ some a → f a ≡ z → then o f ≡ z
 then-to {A} o a f z e g = ap (λ (q : Option A). then q f) e ∙ g
@@ -114,8 +115,7 @@ zone-reads (east n) v =
     let h : n ≤ 840 = leb-true n 840 v in
     then-to (clock (P.clock n [])) (read n []) _ _ (clock-reads n [] (omega arith)) (only-to (isZone (east n)) (east n) v)
 zone-reads (west n) v =
-    let h : n ≤ 840 = leb-true n 840 (and-right (leb 1 n) (leb n 840) v) in
-    let i : 1 ≤ n = leb-true 1 n (and-left (leb 1 n) (leb n 840) v) in
+    let h = in-range 1 n 840 v in
     let e : minutesWest n ≡ west n = some-minutes n (ne-eqb n 0 (λ f. omega arith)) in
     then-to (clock (P.clock n [])) (read n []) _ _ (clock-reads n [] (omega arith)) (subst (λ (z : Zone). only (isZone z) z ≡ some (west n)) (sym e) (only-to (isZone (west n)) (west n) v))
 
