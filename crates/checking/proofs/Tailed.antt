@@ -13,6 +13,7 @@ use borrow.Author.Tests.{lt-ltb, le-ltb, ne-eqb}
 use Rattle.json.specs.Rows.{look}
 use Rattle.json.specs.Byte.{within}
 use Rattle.document.specs.Utf8.{followRows, goOn, wellFormed, isUtf8}
+use Rattle.document.proofs.Utf8Texts.{is-within}
 use Rattle.checking.specs.Tails.{following, expects, unless, follows}
 use Rattle.checking.specs.declared.utf8.Tail.{Tail}
 
@@ -41,10 +42,6 @@ in-high : (low high b : ℕ) → low ≤ b → high < b → within low (suc high
 unfolding within look
 in-high low high b g h = let k : suc high ≤ b = omega arith in simp (le-ltb b low g, le-ltb b (suc high) k)
 
-in-both : (low high b : ℕ) → low ≤ b → b ≤ high → within low (suc high) b ≡ true
-unfolding within look
-in-both low high b g h = let k : b < suc high = omega arith in simp (le-ltb b low g, lt-ltb b (suc high) k)
-
 pub low-leaves : (s : List ℕ) (b : ℕ) (t : Tail) → (t .left ≡ 0 → ⊥) → b < t .low → wellFormed (b ∷ s) (expects t) ≡ false
 low-leaves s b t e h = out (t .low) (t .high) b s (t .left) e (in-low (t .low) (t .high) b h)
 
@@ -60,7 +57,7 @@ one-less s b (suc (suc n)) low high e f =
     rw f (ap (λ k. wellFormed s (following k 0x80 0xBF)) m)
 
 pub inner-leaves : (s : List ℕ) (b : ℕ) (t r : Tail) → (t .left ≡ 0 → ⊥) → t .low ≤ b → b ≤ t .high → follows r ≡ some (following (t .left - 1) 0x80 0xBF) → Leaves s b t r
-inner-leaves s b t r e g h f = one-less s b (t .left) (t .low) (t .high) e (in-both (t .low) (t .high) b g h) ∙ ap (λ o. goOn o (λ ws. wellFormed s ws)) (sym f)
+inner-leaves s b t r e g h f = one-less s b (t .left) (t .low) (t .high) e (is-within (t .low) (suc (t .high)) b g (omega arith)) ∙ ap (λ o. goOn o (λ ws. wellFormed s ws)) (sym f)
 
 -- The bytes from i on, with a sequence open.
 unless-some : {A : Type 0} (w : Bool) (a b : A) → unless w a ≡ some b → w ≡ false
