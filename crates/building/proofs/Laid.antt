@@ -7,9 +7,10 @@ use native.Mathlib.Nat.{add-zero}
 use native.Mathlib.Numerals.{add-one}
 use native.Mathlib.Omega.{arith}
 use lib.Dec.{eqb}
-use lib.ListN.{length, drop, set, getD, length-append}
+use lib.ListN.{length, drop, getD, length-append}
 use lib.Seq.{sets, length-sets, drop-drop, getD-drop}
 use borrow.Author.Tests.{le-leb, eq-eqb, ne-eqb}
+use Rattle.json.proofs.Stores.{sets-append}
 use Rattle.moving.specs.Read.{decoded}
 use Rattle.strings.specs.Strings.{fits, buffered}
 use Rattle.document.specs.Posology as P
@@ -30,12 +31,6 @@ laid-snoc text (suc i) ws buffer =
     let n : 6 + i * 6 ≡ suc i * 6 = omega arith in
     laid-snoc text i (drop 6 ws) (laidRow text ws buffer)
     ∙ ap (λ (v : List ℕ). laidRow text v (laidRows text i (drop 6 ws) (laidRow text ws buffer))) (drop-drop (i * 6) 6 ws ∙ ap (λ (k : ℕ). drop k ws) n)
-
-pub sets-append : (xs ys l : List ℕ) (i : ℕ) → sets l i (xs ++ ys) ≡ sets (sets l i xs) (i + length xs) ys
-sets-append [] ys l i = ap (λ (k : ℕ). sets l k ys) (sym (add-zero i))
-sets-append (x ∷ xs) ys l i =
-    let n : suc i + length xs ≡ i + suc (length xs) = omega arith in
-    sets-append xs ys (set l i x) (suc i) ∙ ap (λ (k : ℕ). sets (sets (set l i x) (suc i) xs) k ys) n
 
 -- Bytes that have room are laid.
 pub buffered-fits : (buffer : List ℕ) (to : ℕ) (bytes : List ℕ) → to + length bytes ≤ length buffer → buffered buffer to bytes ≡ sets buffer to bytes

@@ -17,9 +17,10 @@ use Rattle.building.specs.Built.{laidRows, laidPiece, stringsLaid}
 use Rattle.heads.specs.Heads.{PieceOf, Holds}
 use Rattle.heads.specs.declared.head.Piece.{Piece}
 use Rattle.heads.specs.declared.head.HeadRead.{HeadRead}
+use Rattle.json.proofs.Stores.{sets-append}
 use Rattle.document.proofs.Untables.{joined-append}
 use Rattle.document.proofs.Strings.{given-length, strings-parts}
-use Rattle.building.proofs.Laid.{sets-append, buffered-fits, detail-laid, piece-lays, piece-passes}
+use Rattle.building.proofs.Laid.{buffered-fits, detail-laid, piece-lays, piece-passes}
 use Rattle.building.proofs.Made.{words-split, all-taken}
 
 -- A piece behind the strings so far.

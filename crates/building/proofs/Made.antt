@@ -1,44 +1,30 @@
 -- The table made of the words and the head's cells is the posology's.
 use Prim.Native.Nat.{ℕ, _+_, _-_, _≤_}
-use mathlib.Core.Path.{_≡_, refl, sym, ap, _∙_}
+use mathlib.Core.Path.{_≡_, sym, ap, _∙_}
 use mathlib.Core.List.{List, [], _++_}
-use mathlib.Core.Bool.{Bool, true, false, _&&_}
+use mathlib.Core.Bool.{true}
 use mathlib.Core.Option.{Option, none, some}
 use native.Mathlib.Nat.{add-zero}
 use native.Mathlib.Omega.{arith}
 use borrow.Author.Tests.{le-leb}
-use lib.Dec.{leb}
 use lib.ListN.{length, drop, replicate, take-append-drop}
 use Rattle.document.specs.Posology.{Posology}
-use Rattle.document.specs.Date.{isDate, inOrder}
 use Rattle.document.specs.Table.{noRecord, textCell, lengthOf, filled, headOf, detailRows, tableOf}
-use Rattle.document.specs.Valid.{detailRecords, detailStrings, validDetail, validFields, valid, ifGiven, isMeal, isUnitFor, isText}
+use Rattle.document.specs.Valid.{detailRecords, detailStrings, valid}
 use Rattle.document.specs.declared.table.Record.{Record}
 use Rattle.building.specs.Built.{pieceCell, headCells, recordsOf, countOf, built}
 use Rattle.heads.specs.Heads.{PieceOf, Holds}
 use Rattle.heads.specs.declared.head.Piece.{Piece}
 use Rattle.heads.specs.declared.head.HeadRead.{HeadRead}
-use Rattle.json.proofs.Truth.{and-left}
 use Rattle.kinds.specs.Kinds.{recordIn, groups, recordsIn}
 use Rattle.kinds.proofs.Fill.{groups-length}
+use Rattle.document.proofs.ValidParts.{valid-parts}
 use Rattle.document.proofs.Untabled.{filled-is}
 use Rattle.building.proofs.Back.{detail-back}
 
 piece-cell : (text : List ℕ) (start : ℕ) (o : Option (List ℕ)) (p : Piece) → PieceOf text start o p → pieceCell p ≡ textCell start o
 piece-cell text start none p e = rw (e .1, e .2)
 piece-cell text start (some cs) p e = rw (e .0, e .1)
-
-third-of-nine : (a b c d e f g h i : Bool) → (a && b && c && d && e && f && g && h && i) ≡ true → c ≡ true
-third-of-nine true true true d e f g h i k = refl
-third-of-nine true true false d e f g h i k = k
-third-of-nine true false c d e f g h i k = cc
-third-of-nine false b c d e f g h i k = cc
-
-detail-valid : (purpose : ℕ) (p : Posology) → valid purpose p ≡ true → validDetail (p .po) 3 ≡ true
-unfolding valid
-detail-valid purpose p h =
-    third-of-nine (ifGiven isDate (p .dtFrom)) (ifGiven isDate (p .dtTo)) (validDetail (p .po) 3) (ifGiven isMeal (p .relMeal)) (isUnitFor purpose (p .unit)) (ifGiven isText (p .applInstr)) (ifGiven isText (p .roa)) (ifGiven isText (p .moa)) (inOrder (p .dtFrom) (p .dtTo))
-    (and-left (validFields purpose p) (leb (detailRecords (p .po)) 64) h)
 
 module _ (text : List ℕ) (purpose : ℕ) (p : Posology) (h : HeadRead) (words : List ℕ) (holds : Holds text p h words) where
   head-made : headCells h ≡ headOf p
@@ -64,7 +50,7 @@ module _ (text : List ℕ) (purpose : ℕ) (p : Posology) (h : HeadRead) (words 
       let rest = drop (length (holds .chunk)) words in
       ap (λ (n : ℕ). recordsOf n words) (holds .count ∙ sym (add-zero (detailRecords (p .po))))
       ∙ ap (λ (ws : List ℕ). recordsOf (detailRecords (p .po) + 0) ws) words-split
-      ∙ detail-back (p .po) 3 (detail-valid purpose p ok) text 0 (holds .chunk) (holds .rows) 0 rest
+      ∙ detail-back (p .po) 3 (valid-parts purpose p ok .detail) text 0 (holds .chunk) (holds .rows) 0 rest
 
   records-made : valid purpose p ≡ true → recordsOf (h .used .records) words ++ replicate (64 - h .used .records) noRecord ≡ filled 64 (detailRows (p .po) 0 [])
   records-made ok =

@@ -4,7 +4,6 @@ use mathlib.Core.List.{List, [], _∷_, _++_}
 use mathlib.Core.Bool.{true, not, _&&_, false≢true}
 use Prim.Native.Nat.{ℕ, zero, suc, _+_, _-_, _≤_}
 use native.Mathlib.Omega.{arith}
-use lib.Dec.{leb}
 use lib.ListN.{length, take, drop, length-append, length-drop}
 use lib.Seq.{drop-drop, take-at, drop-at}
 use borrow.Author.Tests.{leb-true}
@@ -20,6 +19,7 @@ use Rattle.document.specs.declared.table.Record.{Record}
 use Rattle.document.specs.declared.table.Kind.the-variants as K
 use Rattle.words.specs.Standing.{belowAt, bAt, At, Lies}
 use Rattle.doses.proofs.Lies.{moved}
+use Rattle.document.proofs.Ranges.{in-range}
 use Rattle.document.proofs.Untables.{joined-append}
 use Rattle.json.proofs.Truth.{and-left, and-right}
 use Rattle.doses.proofs.Decided.{same-parent}
@@ -117,13 +117,10 @@ module _ {ws buffer : List ℕ} where
       let w = and-right (isTimeUnit u && isDuration du && validTimed td (underCyclic u)) (isDuration per) v in
       let x = and-left (isTimeUnit u) (isDuration du) v₂ in
       let y = and-right (isTimeUnit u) (isDuration du) v₂ in
-      let u₀ : 1 ≤ u = leb-true 1 u (and-left (leb 1 u) (leb u 7) x) in
-      let u₁ : u ≤ 7 = leb-true u 7 (and-right (leb 1 u) (leb u 7) x) in
-      let d₀ : 1 ≤ du = leb-true 1 du (and-left (leb 1 du) (leb du 99999) y) in
-      let d₁ : du ≤ 99999 = leb-true du 99999 (and-right (leb 1 du) (leb du 99999) y) in
-      let p₀ : 1 ≤ per = leb-true 1 per (and-left (leb 1 per) (leb per 99999) w) in
-      let p₁ : per ≤ 99999 = leb-true per 99999 (and-right (leb 1 per) (leb per 99999) w) in
-      let r = timed-found td (underCyclic u) u k (lets-cyclic u u₀) (and-right (isTimeUnit u && isDuration du) (validTimed td (underCyclic u)) v₁) (omega arith) (l .1) in
+      let u-in = in-range 1 u 7 x in
+      let du-in = in-range 1 du 99999 y in
+      let per-in = in-range 1 per 99999 w in
+      let r = timed-found td (underCyclic u) u k (lets-cyclic u (u-in .0)) (and-right (isTimeUnit u && isDuration du) (validTimed td (underCyclic u)) v₁) (omega arith) (l .1) in
       let c = r .1 .0 in
       let n : i + 1 + timedRecords td ≡ i + (1 + timedRecords td) = omega arith in
       record { taken = text; at = still (cyclic (record { row = record { inside = p .inside; tag = p .tag; below-least = omega arith; below-most = omega arith; a-least = omega arith; a-most = omega arith; b-least = omega arith; b-most = omega arith; c-least = omega arith; c-most = omega arith; d-least = omega arith; d-most = omega arith }; inner = same-parent (sym (p .a)) (r .0); nested = omega arith })) refl; count = omega arith; lies = moved ws (allWords k) n (r .1 .1); behind = e; most = m; sum = λ s. refl }
@@ -134,10 +131,8 @@ module _ {ws buffer : List ℕ} where
       let p = l .0 in
       let x = and-left (isDuration du) (isTimeUnit u) v in
       let y = and-right (isDuration du) (isTimeUnit u) v in
-      let d₀ : 1 ≤ du = leb-true 1 du (and-left (leb 1 du) (leb du 99999) x) in
-      let d₁ : du ≤ 99999 = leb-true du 99999 (and-right (leb 1 du) (leb du 99999) x) in
-      let u₀ : 1 ≤ u = leb-true 1 u (and-left (leb 1 u) (leb u 7) y) in
-      let u₁ : u ≤ 7 = leb-true u 7 (and-right (leb 1 u) (leb u 7) y) in
+      let du-in = in-range 1 du 99999 x in
+      let u-in = in-range 1 u 7 y in
       record { taken = text; at = pause (record { inside = p .inside; tag = p .tag; below-least = omega arith; below-most = omega arith; a-least = omega arith; a-most = omega arith; b-least = omega arith; b-most = omega arith; c-least = omega arith; c-most = omega arith; d-least = omega arith; d-most = omega arith }) refl; count = omega arith; lies = l .1; behind = e; most = m; sum = λ s. refl }
 
   posology-found : (du u : ℕ) (po : Detail) (left i text : ℕ) (k : List Record) (rest : List ℕ) → validObject (P.posologySequence du u po) left ≡ true → i + objectRecords (P.posologySequence du u po) ≤ 64 → At ws i (recordWords (row (K.PosologySequence du u) (detailRecords po))) → FoundDetail ws buffer po left (i + 1) text k rest → FoundObject ws buffer (P.posologySequence du u po) left i text k rest
@@ -146,10 +141,8 @@ module _ {ws buffer : List ℕ} where
       let v₁ = and-left (isDuration du && isTimeUnit u) (validDetail po left) v in
       let x = and-left (isDuration du) (isTimeUnit u) v₁ in
       let y = and-right (isDuration du) (isTimeUnit u) v₁ in
-      let d₀ : 1 ≤ du = leb-true 1 du (and-left (leb 1 du) (leb du 99999) x) in
-      let d₁ : du ≤ 99999 = leb-true du 99999 (and-right (leb 1 du) (leb du 99999) x) in
-      let u₀ : 1 ≤ u = leb-true 1 u (and-left (leb 1 u) (leb u 7) y) in
-      let u₁ : u ≤ 7 = leb-true u 7 (and-right (leb 1 u) (leb u 7) y) in
+      let du-in = in-range 1 du 99999 x in
+      let u-in = in-range 1 u 7 y in
       let c = r .count in
       let n : i + 1 + detailRecords po ≡ i + (1 + detailRecords po) = omega arith in
       record { taken = r .taken; at = posology (record { inside = p .inside; tag = p .tag; below-least = omega arith; below-most = omega arith; a-least = omega arith; a-most = omega arith; b-least = omega arith; b-most = omega arith; c-least = omega arith; c-most = omega arith; d-least = omega arith; d-most = omega arith }) (r .at) (omega arith); count = omega arith; lies = moved ws (allWords k) n (r .lies); behind = r .behind; most = r .most; sum = r .sum }

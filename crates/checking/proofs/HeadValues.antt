@@ -5,23 +5,23 @@ use mathlib.Core.Bool.{Bool, true, false, cond}
 use mathlib.Core.Option.{Option, none, some, Option·getD}
 use Prim.Native.Nat.{ℕ, _≤_}
 use native.Mathlib.Omega.{arith}
-use lib.Dec.{eqb, leb}
+use lib.Dec.{eqb}
 use lib.ListN.{length}
-use borrow.Author.Tests.{le-leb, leb-true, eqb-true, eqb-false}
+use borrow.Author.Tests.{le-leb, eqb-true, eqb-false}
 use Rattle.document.specs.Posology.{Posology}
-use Rattle.document.specs.Date.{isDate, inOrder}
-use Rattle.document.specs.Schema.{mealCodes, sequencesInside}
-use Rattle.document.specs.Visit.{recordsAtMost}
-use Rattle.document.specs.Valid.{isText, isMeal, ifGiven, isUnitFor, validDetail, validFields, valid, detailRecords, detailStrings}
+use Rattle.document.specs.Date.{isDate}
+use Rattle.document.specs.Schema.{mealCodes}
+use Rattle.document.specs.Valid.{isMeal, ifGiven, detailStrings}
 use Rattle.document.specs.Table.{dateCell, headOf}
 use Rattle.document.specs.Untable.{dateOf, mealOf}
 use Rattle.document.specs.declared.table.Text.{Text}
 use Rattle.document.specs.declared.table.Date.{Date}
 use Rattle.document.specs.declared.table.Date.the-variants as D
 use Rattle.document.specs.declared.table.Head.{Head}
-use Rattle.document.proofs.Parts.{all-nine}
+use Rattle.document.proofs.Ranges.{in-range}
+use Rattle.document.proofs.ValidParts.{ValidParts}
 use Rattle.document.proofs.Untabled.{date-back, order-back}
-use Rattle.json.proofs.Truth.{and-left, and-right, and-both}
+use Rattle.json.proofs.Truth.{and-both}
 use Rattle.checking.proofs.Pieces.{unit-given}
 use Rattle.checking.specs.Readable.{HeadRight}
 
@@ -47,7 +47,7 @@ valid-meal m h = go (eqb m 0) refl
 
 meal-most : (o : Option ℕ) → ifGiven isMeal o ≡ true → Option·getD o 0 ≤ 6
 meal-most none h = omega arith
-meal-most (some m) h = leb-true m mealCodes (and-right (leb 1 m) (leb m mealCodes) h)
+meal-most (some m) h = in-range 1 m mealCodes h .1
 
 abbrev headWith : Date → Date → Bool → ℕ → Text → Text → Text → Text → Head
 headWith from to reserve meal unit instructions roa moa = record { from = from; to = to; reserve = reserve; meal = meal; unit = unit; instructions = instructions; roa = roa; moa = moa }
@@ -55,28 +55,7 @@ headWith from to reserve meal unit instructions roa moa = record { from = from; 
 pub same-head : (h : Head) {from to : Date} {meal : ℕ} {unit instructions roa moa : Text} → from ≡ h .from → to ≡ h .to → meal ≡ h .meal → unit ≡ h .unit → instructions ≡ h .instructions → roa ≡ h .roa → moa ≡ h .moa → headWith from to (h .reserve) meal unit instructions roa moa ≡ h
 same-head h a b c d e f g = rw (a, b, c, d, e, f, g)
 
-pub record Parts (purpose : ℕ) (p : Posology) : Type 0 where
-  pub from : ifGiven isDate (p .dtFrom) ≡ true
-  pub to : ifGiven isDate (p .dtTo) ≡ true
-  pub detail : validDetail (p .po) 3 ≡ true
-  pub meal : ifGiven isMeal (p .relMeal) ≡ true
-  pub unit : isUnitFor purpose (p .unit) ≡ true
-  pub instructions : ifGiven isText (p .applInstr) ≡ true
-  pub roa : ifGiven isText (p .roa) ≡ true
-  pub moa : ifGiven isText (p .moa) ≡ true
-  pub ordered : inOrder (p .dtFrom) (p .dtTo) ≡ true
-
-pub valid-parts : (purpose : ℕ) (p : Posology) → valid purpose p ≡ true → Parts purpose p
-unfolding valid validFields
-valid-parts purpose p v =
-    let n = all-nine (ifGiven isDate (p .dtFrom)) (ifGiven isDate (p .dtTo)) (validDetail (p .po) sequencesInside) (ifGiven isMeal (p .relMeal)) (isUnitFor purpose (p .unit)) (ifGiven isText (p .applInstr)) (ifGiven isText (p .roa)) (ifGiven isText (p .moa)) (inOrder (p .dtFrom) (p .dtTo)) (and-left (validFields purpose p) (leb (detailRecords (p .po)) recordsAtMost) v) in
-    record { from = n .0; to = n .1; detail = n .2; meal = n .3; unit = n .4; instructions = n .5; roa = n .6; moa = n .7; ordered = n .8 }
-
-pub parts-valid : (purpose : ℕ) (p : Posology) → Parts purpose p → detailRecords (p .po) ≤ 64 → valid purpose p ≡ true
-unfolding valid validFields
-parts-valid purpose p n few = and-both (and-both (and-both (and-both (and-both (and-both (and-both (and-both (and-both (n .from) (n .to)) (n .detail)) (n .meal)) (n .unit)) (n .instructions)) (n .roa)) (n .moa)) (n .ordered)) (le-leb (detailRecords (p .po)) 64 few)
-
-pub head-right : (purpose : ℕ) (p : Posology) → Parts purpose p → HeadRight (headOf p) purpose
+pub head-right : (purpose : ℕ) (p : Posology) → ValidParts purpose p → HeadRight (headOf p) purpose
 unfolding headOf
 head-right purpose p n = record {
   from = ap (ifGiven isDate) (date-back (p .dtFrom)) ∙ n .from;

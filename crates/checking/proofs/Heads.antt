@@ -1,7 +1,7 @@
 -- Moments, strings and the head of a table.
 use mathlib.Core.Path.{_≡_, refl, sym, subst}
 use mathlib.Core.List.{List}
-use mathlib.Core.Bool.{Bool, true, false, _&&_, true≢false, false≢true}
+use mathlib.Core.Bool.{Bool, true, false, _&&_, and-true, true≢false, false≢true}
 use Prim.Native.Nat.{ℕ, _+_, _≤_, _<_}
 use native.Mathlib.Omega.{arith}
 use lib.Dec.{leb, ltb}
@@ -18,10 +18,6 @@ moment-late s west zone h = sym (simp (lt-leb s 86399 h))
 pub moment-far : (s : ℕ) (west : Bool) (zone : ℕ) → s ≤ 86399 → 840 < zone → false ≡ momentIn s west zone
 moment-far s false zone h g = sym (simp (le-leb s 86399 h, lt-leb zone 840 g))
 moment-far s true zone h g = let k : 1 ≤ zone = omega arith in sym (simp (le-leb s 86399 h, le-leb 1 zone k, lt-leb zone 840 g))
-
-and-true : (b : Bool) → (b && true) ≡ b
-and-true true = refl
-and-true false = refl
 
 pub moment-west : (s : ℕ) (west : Bool) (zone : ℕ) → s ≤ 86399 → zone ≤ 840 → west ≡ true → ltb 0 zone ≡ momentIn s west zone
 moment-west s false zone h g e = absurd (false≢true e)

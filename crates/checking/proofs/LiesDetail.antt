@@ -1,6 +1,6 @@
 -- Words that are checked are those of a value: details and the objects of a sequence.
 use mathlib.Core.Path.{_≡_, refl, ap, sym, subst, _∙_}
-use mathlib.Core.List.{List, [], _∷_, _++_}
+use mathlib.Core.List.{List, [], _++_}
 use mathlib.Core.Bool.{true, not}
 use Prim.Native.Nat.{ℕ, zero, suc, _+_, _-_, _≤_}
 use native.Mathlib.Omega.{arith}
@@ -9,21 +9,17 @@ use lib.Seq.{length-take-le, drop-drop}
 use borrow.Author.Tests.{le-leb}
 use Rattle.document.specs.Posology as P
 use Rattle.document.specs.Posology.{Detail, SequenceObject, SequenceObjects}
-use Rattle.document.specs.Visit.{isEmpty}
 use Rattle.document.specs.Valid.{validDetail, validObject, validObjects, someObject, timedRecords, detailRecords, objectRecords, objectsRecords, detailStrings, objectStrings, objectsStrings}
 use Rattle.document.specs.Table.{detailRows, objectRows, objectsRows}
 use Rattle.document.specs.Words.{allWords}
 use Rattle.document.specs.declared.table.Record.{Record}
+use Rattle.document.proofs.Strings.{some-of-length}
 use Rattle.document.proofs.Untables.{joined-append}
 use Rattle.words.specs.Standing.{belowAt, aAt, bAt, cAt, dAt, Lies}
 use Rattle.json.proofs.Truth.{and-both}
 use Rattle.doses.proofs.Lies.{moved, single-is, cyclic-is}
 use Rattle.doses.specs.Doses.{Row, Nested, StillAt, daily, single, cyclic}
 use Rattle.checking.specs.Checks.{FreeTextAt, DetailAt, still, freeText, sequence, ObjectAt, pause, posology, ObjectsAt, last, more}
-
-pub not-empty : (cs : List ℕ) → 1 ≤ length cs → not (isEmpty cs) ≡ true
-not-empty [] h = absurd (omega arith)
-not-empty (c ∷ cs) h = refl
 
 pub record DetailIs (ws buffer : List ℕ) (left i text u : ℕ) : Type 0 where
   pub value : Detail
@@ -94,7 +90,7 @@ module _ {ws buffer : List ℕ} where
       let n : length cs ≡ bAt ws i = length-take-le (bAt ws i) (drop text buffer) (omega (arith, length-drop text buffer, o .b-most)) in
       record {
         value = P.freeText cs;
-        valid = and-both (not-empty cs (omega (arith, o .b-least))) (p .utf8);
+        valid = and-both (ap not (some-of-length cs (λ z. omega (arith, o .b-least)))) (p .utf8);
         lies = λ k l. (record { inside = o .inside; tag = o .tag; below = omega arith; a = omega arith; b = sym n; c = omega arith; d = omega arith }, l);
         count = omega arith;
         taken = λ k. let j = ap length (joined-append cs k) ∙ length-append cs k in omega arith;

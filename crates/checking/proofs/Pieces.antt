@@ -14,9 +14,9 @@ use Rattle.document.specs.Utf8.{isUtf8}
 use Rattle.document.specs.Valid.{isText, ifGiven, isUnitFor}
 use Rattle.document.specs.Table.{textCell, lengthOf}
 use Rattle.document.specs.declared.table.Text.{Text}
+use Rattle.document.proofs.Strings.{some-of-length}
 use Rattle.document.proofs.Untabled.{bytesOf}
 use Rattle.json.proofs.Truth.{and-left, and-right, and-both}
-use Rattle.checking.proofs.LiesDetail.{not-empty}
 use Rattle.checking.proofs.FoundDetail.{not-none}
 use Rattle.checking.specs.Readable.{PieceAt, absent, present}
 
@@ -45,7 +45,7 @@ piece-is {buffer} {t} {text} {u} (present p e) =
     let n : length cs ≡ t .len = length-take-le (t .len) (drop text buffer) (omega (arith, length-drop text buffer, p .fits)) in
     record {
       value = some cs;
-      valid = and-both (not-empty cs (omega (arith, p .some))) (p .utf8);
+      valid = and-both (ap not (some-of-length cs (λ z. omega (arith, p .some)))) (p .utf8);
       cell = λ at h. same-text t at (length cs) (h ∙ sym (p .starts)) n;
       len = n;
       sum = omega arith;

@@ -1,7 +1,7 @@
 -- What is checked of a table is what makes it readable.
-use mathlib.Core.Path.{_≡_, refl, ap, sym, subst, _∙_}
+use mathlib.Core.Path.{_≡_, ap, sym, subst, _∙_}
 use mathlib.Core.List.{List, [], _∷_, _++_}
-use mathlib.Core.Bool.{Bool, true, false}
+use mathlib.Core.Bool.{true}
 use Prim.Native.Nat.{ℕ, _+_, _*_, _-_, _≤_}
 use native.Mathlib.Omega.{arith}
 use lib.ListN.{length, drop, replicate, length-replicate}
@@ -17,6 +17,7 @@ use Rattle.document.specs.declared.table.Table.{Table}
 use Rattle.document.proofs.WordsBack.{words-one}
 use Rattle.document.proofs.Untables.{detail-append}
 use Rattle.document.proofs.Parts.{unit-text}
+use Rattle.document.proofs.ValidParts.{ValidParts, valid-parts, parts-valid}
 use Rattle.document.proofs.Untabled.{bytesOf, strings-append, detail-rows, detail-length}
 use Rattle.document.proofs.Strings.{strings-size}
 use Rattle.document.proofs.Tables.{own-readable}
@@ -27,12 +28,12 @@ use Rattle.checking.proofs.FoundDetail.{detail-found}
 use Rattle.checking.proofs.Laid.{all-length, unused-zero, zeros-lie, lies-rows}
 use Rattle.checking.proofs.Stands.{records-of, readable-stands}
 use Rattle.checking.proofs.Pieces.{PieceIs, piece-is, piece-found, piece-behind, unit-for}
-use Rattle.checking.proofs.HeadValues.{cell-date, cell-meal, valid-meal, same-head, Parts, valid-parts, parts-valid, head-right}
+use Rattle.checking.proofs.HeadValues.{cell-date, cell-meal, valid-meal, same-head, head-right}
 use Rattle.checking.specs.Checks.{Zeros}
 use Rattle.checking.specs.Readable.{PiecesAt, HeadRight, LaidAt}
 
 -- A value's table and strings are laid as the checks want them.
-module _ (purpose : ℕ) (p : Posology) (n : Parts purpose p) (buffer behind : List ℕ) where
+module _ (purpose : ℕ) (p : Posology) (n : ValidParts purpose p) (buffer behind : List ℕ) where
   pieces-found : (at : ℕ) → at ≡ length (detailStrings (p .po) []) → drop at buffer ≡ bytesOf (p .unit) ++ (bytesOf (p .applInstr) ++ (bytesOf (p .roa) ++ (bytesOf (p .moa) ++ behind))) → PiecesAt buffer (headOf p) at (length (strings p))
   unfolding headOf
   pieces-found at a e₀ =
@@ -95,7 +96,7 @@ module _ (ws buffer : List ℕ) (h : Head) (taken u₁ u₂ u₃ text : ℕ) (d 
   abbrev value : Posology
   value = record { dtFrom = dateOf (h .from); dtTo = dateOf (h .to); inRes = h .reserve; po = d .value; relMeal = mealOf (h .meal); unit = a .value; applInstr = b .value; roa = c .value; moa = m .value }
 
-  value-parts : (purpose : ℕ) → HeadRight h purpose → Parts purpose value
+  value-parts : (purpose : ℕ) → HeadRight h purpose → ValidParts purpose value
   value-parts purpose r = record {
     from = r .from;
     to = r .to;
@@ -166,7 +167,3 @@ laid-readable purpose t ws buffer e n r l =
     let d = detail-is (l .detail) in
     value-readable ws buffer (t .head) (l .taken) (q .u₁) (q .u₂) (q .u₃) (t .text) d (piece-is (q .unit)) (piece-is (q .instructions)) (piece-is (q .roa)) (piece-is (q .moa))
     purpose (t .count) (t .records) e n r (omega (arith, l .counted, d .count)) (l .fits) (l .room) (l .zeros)
-
-pub not-readable : (b : Bool) → (b ≡ true → ⊥) → false ≡ b
-not-readable true f = absurd (f refl)
-not-readable false f = refl

@@ -9,14 +9,14 @@ use lib.ListN.{length, take, drop, replicate, take-append-drop}
 use borrow.Author.Tests.{leb-true}
 use Rattle.document.specs.Lookup.{same}
 use Rattle.document.specs.Posology.{Posology}
-use Rattle.document.specs.Visit.{recordsAtMost}
-use Rattle.document.specs.Valid.{valid, validFields, detailRecords, strings}
+use Rattle.document.specs.Valid.{valid, detailRecords, strings}
 use Rattle.document.specs.Table.{noRecord, detailRows, tableOf}
 use Rattle.document.specs.Words.{allWords, rows, tableWords}
 use Rattle.document.specs.Untable.{posologyOf}
 use Rattle.document.specs.Write.{greatestRoom, isTableOf, readable}
 use Rattle.document.specs.declared.table.Table.{Table}
 use Rattle.json.proofs.Truth.{and-left, and-right}
+use Rattle.document.proofs.ValidParts.{few-records}
 use Rattle.document.proofs.WordsBack.{words-one}
 use Rattle.document.proofs.Untabled.{detail-length, filled-is}
 use Rattle.document.proofs.Same.{same-equal}
@@ -34,10 +34,6 @@ pub record Standing (purpose : ℕ) (t : Table) (buffer : List ℕ) : Type 0 whe
   pub strings-first : buffer ≡ strings is ++ behind
   pub lies : Lies (rows (allWords (t .records))) 0 (allWords (detailRows (is .po) 0 []))
   pub few : detailRecords (is .po) ≤ 64
-
-pub few-records : (purpose : ℕ) (p : Posology) → valid purpose p ≡ true → detailRecords (p .po) ≤ 64
-unfolding valid
-few-records purpose p v = leb-true (detailRecords (p .po)) recordsAtMost (and-right (validFields purpose p) (leb (detailRecords (p .po)) recordsAtMost) v)
 
 -- The records of its table: those of the detail, and unused ones.
 pub records-of : (p : Posology) → detailRecords (p .po) ≤ 64 → tableOf p .records ≡ detailRows (p .po) 0 [] ++ replicate (64 - length (detailRows (p .po) 0 [])) noRecord

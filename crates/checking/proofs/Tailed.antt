@@ -1,7 +1,7 @@
 -- UTF-8, one byte after the other.
 use mathlib.Core.Path.{_≡_, refl, ap, sym, _∙_}
 use mathlib.Core.List.{List, [], _∷_}
-use mathlib.Core.Bool.{Bool, true, false, _&&_, true≢false, false≢true}
+use mathlib.Core.Bool.{Bool, true, false, true≢false, false≢true}
 use mathlib.Core.Option.{some}
 use Prim.Native.Nat.{ℕ, zero, suc, _+_, _-_, _≤_, _<_}
 use native.Mathlib.Omega.{arith}
@@ -13,6 +13,7 @@ use borrow.Author.Tests.{lt-ltb, le-ltb, ne-eqb}
 use Rattle.json.specs.Rows.{look}
 use Rattle.json.specs.Byte.{within}
 use Rattle.document.specs.Utf8.{followRows, goOn, wellFormed, isUtf8}
+use Rattle.document.proofs.Utf8Texts.{is-within}
 use Rattle.checking.specs.Tails.{following, expects, unless, follows}
 use Rattle.checking.specs.declared.utf8.Tail.{Tail}
 
@@ -28,18 +29,10 @@ none-before s b (suc n) low high e = absurd (omega arith)
 pub first-leaves : (s : List ℕ) (b : ℕ) (t r : Tail) → t .left ≡ 0 → follows r ≡ look b followRows → Leaves s b t r
 first-leaves s b t r e f = none-before s b (t .left) (t .low) (t .high) e ∙ ap (λ o. goOn o (λ ws. wellFormed s ws)) (sym f)
 
-and-false : (a b : Bool) → a ≡ false → (a && b) ≡ false
-and-false true b e = absurd (true≢false e)
-and-false false b e = refl
-
-and-true : (a b : Bool) → a ≡ true → (a && b) ≡ b
-and-true true b e = refl
-and-true false b e = absurd (false≢true e)
-
 out : (low high b : ℕ) (s : List ℕ) (n : ℕ) → (n ≡ 0 → ⊥) → within low (suc high) b ≡ false → wellFormed (b ∷ s) (following n low high) ≡ false
 unfolding wellFormed
 out low high b s zero e f = absurd (e refl)
-out low high b s (suc n) e f = and-false (within low (suc high) b) _ f
+out low high b s (suc n) e f = rw f
 
 in-low : (low high b : ℕ) → b < low → within low (suc high) b ≡ false
 unfolding within look
@@ -48,10 +41,6 @@ in-low low high b h = simp (lt-ltb b low h)
 in-high : (low high b : ℕ) → low ≤ b → high < b → within low (suc high) b ≡ false
 unfolding within look
 in-high low high b g h = let k : suc high ≤ b = omega arith in simp (le-ltb b low g, le-ltb b (suc high) k)
-
-in-both : (low high b : ℕ) → low ≤ b → b ≤ high → within low (suc high) b ≡ true
-unfolding within look
-in-both low high b g h = let k : b < suc high = omega arith in simp (le-ltb b low g, lt-ltb b (suc high) k)
 
 pub low-leaves : (s : List ℕ) (b : ℕ) (t : Tail) → (t .left ≡ 0 → ⊥) → b < t .low → wellFormed (b ∷ s) (expects t) ≡ false
 low-leaves s b t e h = out (t .low) (t .high) b s (t .left) e (in-low (t .low) (t .high) b h)
@@ -62,13 +51,13 @@ high-leaves s b t e g h = out (t .low) (t .high) b s (t .left) e (in-high (t .lo
 one-less : (s : List ℕ) (b n low high : ℕ) → (n ≡ 0 → ⊥) → within low (suc high) b ≡ true → wellFormed (b ∷ s) (following n low high) ≡ wellFormed s (following (n - 1) 0x80 0xBF)
 unfolding wellFormed
 one-less s b zero low high e f = absurd (e refl)
-one-less s b (suc zero) low high e f = and-true (within low (suc high) b) _ f
+one-less s b (suc zero) low high e f = rw f
 one-less s b (suc (suc n)) low high e f =
     let m : suc n ≡ suc (suc n) - 1 = omega arith in
-    and-true (within low (suc high) b) _ f ∙ ap (λ k. wellFormed s (following k 0x80 0xBF)) m
+    rw f (ap (λ k. wellFormed s (following k 0x80 0xBF)) m)
 
 pub inner-leaves : (s : List ℕ) (b : ℕ) (t r : Tail) → (t .left ≡ 0 → ⊥) → t .low ≤ b → b ≤ t .high → follows r ≡ some (following (t .left - 1) 0x80 0xBF) → Leaves s b t r
-inner-leaves s b t r e g h f = one-less s b (t .left) (t .low) (t .high) e (in-both (t .low) (t .high) b g h) ∙ ap (λ o. goOn o (λ ws. wellFormed s ws)) (sym f)
+inner-leaves s b t r e g h f = one-less s b (t .left) (t .low) (t .high) e (is-within (t .low) (suc (t .high)) b g (omega arith)) ∙ ap (λ o. goOn o (λ ws. wellFormed s ws)) (sym f)
 
 -- The bytes from i on, with a sequence open.
 unless-some : {A : Type 0} (w : Bool) (a b : A) → unless w a ≡ some b → w ≡ false

@@ -7,15 +7,16 @@ use Prim.Native.Nat.{ℕ, _+_, _-_}
 use native.Mathlib.Omega.{arith}
 use lib.Dec.{leb}
 use lib.ListN.{length}
-use borrow.Author.Tests.{leb-true, le-leb}
+use borrow.Author.Tests.{le-leb}
 use Rattle.json.specs.Tree.{Tree, object, list, string, number, bool, null}
 use Rattle.document.specs.Posology.{Posology, Detail, daily, freeText, single, cyclic, sequence, SequenceObject, posologySequence, pause, SequenceObjects, noObject, objectThen}
 use Rattle.document.specs.Schema.{aPosology, anObject}
 use Rattle.document.specs.Visit.{Left, Outcome, done, visit, recordsAtMost}
 use Rattle.document.specs.Valid.{valid, validFields, detailRecords, joined, given, detailStrings, objectStrings, objectsStrings, strings, Fits}
 use Rattle.document.specs.Spells.{meaningOf, meantMembers, Means}
-use Rattle.json.proofs.Truth.{and-both, and-left, and-right}
+use Rattle.json.proofs.Truth.{and-both, and-left}
 use Rattle.document.proofs.Good.{detailText, objectText, objectsText, givenText, posologyText, Good}
+use Rattle.document.proofs.ValidParts.{few-records}
 use Rattle.document.proofs.Sound.{All, Utf8Tree, tree-sound}
 use Rattle.document.proofs.Complete.{visit-complete, posology-means}
 
@@ -69,7 +70,7 @@ good-valid purpose room p l g =
 valid-good : (purpose room : ℕ) (p : Posology) → valid purpose p ≡ true → Fits room p → (l : Left) × Good (anObject (aPosology purpose)) p (start room) l
 unfolding valid
 valid-good purpose room p v f =
-    let a = leb-true (detailRecords (p .po)) recordsAtMost (and-right (validFields purpose p) (leb (detailRecords (p .po)) recordsAtMost) v) in
+    let a = few-records purpose p v in
     let c = strings-length p in (
       record { records = recordsAtMost - detailRecords (p .po); room = room - posologyText p },
       record { valid = and-left (validFields purpose p) (leb (detailRecords (p .po)) recordsAtMost) v; takes = record { taken = omega arith; used = omega arith } },

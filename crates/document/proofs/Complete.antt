@@ -1,11 +1,11 @@
 -- What a tree means is accepted, if it is good.
 use mathlib.Core.Path.{_≡_, refl, ap, sym, subst, _∙_}
 use mathlib.Core.List.{List, [], _∷_, _++_}
-use mathlib.Core.Bool.{Bool, true, false, not, _&&_, cond, true≢false, false≢true}
+use mathlib.Core.Bool.{Bool, true, false, not, _&&_, false≢true}
 use mathlib.Core.Option.{Option, none, some}
 use Prim.Native.Nat.{ℕ, _+_}
 use native.Mathlib.Omega.{arith}
-use lib.Dec.{eqb, leb, ltb, leb·zero}
+use lib.Dec.{eqb, leb, ltb}
 use lib.ListN.{length, drop}
 use borrow.Author.Tests.{le-leb}
 use Rattle.json.specs.Tree.{Place, Tree, object, list, string, number, bool, null, Members, noMember, member, Elements, noElement, element}
@@ -21,12 +21,12 @@ use Rattle.document.specs.Schema.{greatestDecimal, Family, aPosology, aD
 use Rattle.document.specs.Visit.{Left, recordLess, roomLess, Outcome, done, bind, guard, unless, Value, needed, present, optional, fields, opening, body, placeOf, typed, members, whole, millionths, digits, orRefused, chars, each, isEmpty, distinct, ascending, decimals, elements, ofNumber, ofString, ofBool, ofObject, ofList, valueOf, entriesOf, valuesOf, visit, recordsAtMost}
 use Rattle.document.specs.Valid.{every, isAmount, isDays}
 use Rattle.document.specs.Spells.{Meaning, Given, Perhaps, FieldsMean, MembersMean, DigitsMean, CharsMean, EachMeans, ElementsMean, NumberMeans, StringMeans, BoolMeans, ObjectMeans, ListMeans, meaningOf, meantMembers, meantElements, Means}
-use Rattle.json.proofs.Truth.{and-both, and-left, and-right, choose-true}
+use Rattle.json.proofs.Truth.{and-left, and-right, cond-true, cond-false, choose-true}
 use Rattle.document.proofs.Good.{sum, validOf, recordsOf, textOf, Takes, Good}
 use Rattle.document.proofs.Days.{days-in-range, days-some}
 use Rattle.document.proofs.Makes.{takes-as}
 use Rattle.document.proofs.Sound.{good-free, numbers-take}
-use Rattle.document.proofs.Parts.{Parts, GoodGiven, nothing-taken, opens, dosage-parts, at-time-parts, in-segment-parts, timed-parts, detail-parts, object-parts, posology-parts}
+use Rattle.document.proofs.Parts.{Parts, GoodGiven, nothing-taken, opens, amount-of, dosage-parts, at-time-parts, in-segment-parts, timed-parts, detail-parts, object-parts, posology-parts}
 
 bind-to : {A B : Type 0} (r : Outcome A) (a : A) (l : Left) (f : A → Left → Outcome B) (z : Outcome B) → r ≡ done a l → f a l ≡ z → bind r f ≡ z
 bind-to {A} r a l f z e g = ap (λ (q : Outcome A). bind q f) e ∙ g
@@ -40,14 +40,6 @@ guard-true false n p r e = absurd (false≢true e)
 
 unless-none : {A : Type 0} (o : Option Place) (n : ℕ) (r : Outcome A) → o ≡ none → unless o n r ≡ r
 unless-none o n r e = ap (λ (q : Option Place). unless q n r) e
-
-cond-true : {A : Type 0} (b : Bool) (x y : A) → b ≡ true → cond b x y ≡ x
-cond-true true x y e = refl
-cond-true false x y e = absurd (false≢true e)
-
-cond-false : {A : Type 0} (b : Bool) (x y : A) → b ≡ false → cond b x y ≡ y
-cond-false true x y e = absurd (true≢false e)
-cond-false false x y e = refl
 
 pub record Complete (v : Value) (m : Meaning) : Type 0 where
   pub absent : (s : Shape) → v .absent s ≡ m .absent s
@@ -253,9 +245,6 @@ each-complete s (w ∷ vs) (m′ ∷ ms) h (x ∷ xs) l l′ m v t =
     bind-to (w .read s l) x l₁ _ (done (x ∷ xs) l′) (h .0 .read s x l l₁ (m .0) g)
     (bind-to (each s vs l₁) xs l′ _ (done (x ∷ xs) l′) (each-complete s vs ms (h .1) xs l₁ l′ (m .1) (and-right (validOf s x) (every (validOf s) xs) v) (record { taken = omega arith; used = omega arith })) refl)
 
-amount-in : (a : ℕ) → isAmount a ≡ true → (leb 0 a && leb a greatestDecimal) ≡ true
-amount-in a v = and-both (leb·zero a) v
-
 decimals-complete : (p : Place) (vs : List Value) (ms : List Meaning) → CompleteEach vs ms → (x : Four) (l l′ : Left) → ElementsMean fourDecimals ms x → Good (aList fourDecimals) x l l′ → decimals p vs l ≡ done x l′
 decimals-complete p vs [] h x l l′ m g = absurd m
 decimals-complete p vs (m₁ ∷ []) h x l l′ m g = absurd (m .1)
@@ -279,7 +268,7 @@ decimals-complete p (a ∷ b ∷ c ∷ d ∷ []) (m₁ ∷ m₂ ∷ m₃ ∷ m�
     amount = aNumber (decimal 0)
 
     here : (n : ℕ) → isAmount n ≡ true → Good (aNumber (decimal 0)) n l l
-    here n e = good-free (aNumber (decimal 0)) n l (amount-in n e) refl refl
+    here n e = good-free (aNumber (decimal 0)) n l (amount-of n e) refl refl
 decimals-complete p (a ∷ b ∷ c ∷ d ∷ e ∷ vs) (m₁ ∷ m₂ ∷ m₃ ∷ m₄ ∷ []) h x l l′ m g = absurd (h .1 .1 .1 .1)
 decimals-complete p vs (m₁ ∷ m₂ ∷ m₃ ∷ m₄ ∷ m₅ ∷ ms) h x l l′ m g = absurd (m .1 .1 .1 .1)
 

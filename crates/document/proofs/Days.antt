@@ -10,7 +10,17 @@ use Rattle.json.specs.Rows.{choose}
 use Rattle.document.specs.Date.{among}
 use Rattle.document.specs.Visit.{isEmpty, distinct, inserted, ascending}
 use Rattle.document.specs.Valid.{climbs, isDays, every}
-use Rattle.json.proofs.Truth.{and-both, and-left, and-right}
+use Rattle.json.proofs.Truth.{and-both, and-left, and-right, and-left-comm, or-left-comm}
+use Rattle.document.proofs.Ranges.{in-range}
+
+-- The first day of a set is above the bound, and the others are above it.
+pub climbs-parts : (from hi d : ℕ) (ds : List ℕ) → climbs from hi (d ∷ ds) ≡ true → (from < d) × (d ≤ hi) × (climbs d hi ds ≡ true)
+climbs-parts from hi d ds c =
+    let v = and-left (ltb from d && leb d hi) (climbs d hi ds) c in
+    (ltb-true from d (and-left (ltb from d) (leb d hi) v), leb-true d hi (and-right (ltb from d) (leb d hi) v), and-right (ltb from d && leb d hi) (climbs d hi ds) c)
+
+pub climbs-more : (from hi d : ℕ) (ds : List ℕ) → from < d → d ≤ hi → climbs d hi ds ≡ true → climbs from hi (d ∷ ds) ≡ true
+climbs-more from hi d ds p q c = and-both (and-both (lt-ltb from d p) (le-leb d hi q)) c
 
 or-false-left : (a b : Bool) → (a || b) ≡ false → a ≡ false
 or-false-left true b h = h
@@ -19,11 +29,6 @@ or-false-left false b h = refl
 or-false-right : (a b : Bool) → (a || b) ≡ false → b ≡ false
 or-false-right true b h = absurd (true≢false h)
 or-false-right false b h = h
-
-or-left-comm : (a b c : Bool) → (a || (b || c)) ≡ (b || (a || c))
-or-left-comm true true c = refl
-or-left-comm true false c = refl
-or-left-comm false b c = refl
 
 among-inserted : (x d : ℕ) (es : List ℕ) → among x (inserted d es) ≡ (eqb x d || among x es)
 among-inserted x d [] = refl
@@ -37,32 +42,25 @@ among-ascending : (x : ℕ) (ds : List ℕ) → among x (ascending ds) ≡ among
 among-ascending x [] = refl
 among-ascending x (d ∷ ds) = among-inserted x d (ascending ds) ∙ ap (λ (c : Bool). eqb x d || c) (among-ascending x ds)
 
-inserted-climbs : (from hi d : ℕ) (es : List ℕ) → ltb from d ≡ true → leb d hi ≡ true → among d es ≡ false → climbs from hi es ≡ true → climbs from hi (inserted d es) ≡ true
-inserted-climbs from hi d [] p q r c = and-both (and-both p q) refl
+inserted-climbs : (from hi d : ℕ) (es : List ℕ) → from < d → d ≤ hi → among d es ≡ false → climbs from hi es ≡ true → climbs from hi (inserted d es) ≡ true
+inserted-climbs from hi d [] p q r c = climbs-more from hi d [] p q refl
 inserted-climbs from hi d (e ∷ es) p q r c = go (λ f. inserted-climbs e hi d es f) (leb d e) refl
   where
-    differs : eqb d e ≡ false
-    differs = or-false-left (eqb d e) (among d es) r
+    parts : (from < e) × (e ≤ hi) × (climbs e hi es ≡ true)
+    parts = climbs-parts from hi e es c
 
-    above : (ltb from e && leb e hi) ≡ true
-    above = and-left (ltb from e && leb e hi) (climbs e hi es) c
-
-    behind : climbs e hi es ≡ true
-    behind = and-right (ltb from e && leb e hi) (climbs e hi es) c
-
-    go : (ltb e d ≡ true → leb d hi ≡ true → among d es ≡ false → climbs e hi es ≡ true → climbs e hi (inserted d es) ≡ true) → (b : Bool) → leb d e ≡ b → climbs from hi (choose b (λ _. d ∷ e ∷ es) (λ _. e ∷ inserted d es)) ≡ true
+    go : (e < d → d ≤ hi → among d es ≡ false → climbs e hi es ≡ true → climbs e hi (inserted d es) ≡ true) → (b : Bool) → leb d e ≡ b → climbs from hi (choose b (λ _. d ∷ e ∷ es) (λ _. e ∷ inserted d es)) ≡ true
     go ih true h =
         let le : d ≤ e = leb-true d e h in
-        let ne : d ≡ e → ⊥ = eqb-false d e differs in
-        let lt : d < e = omega arith in
-        and-both (and-both p q) (and-both (and-both (lt-ltb d e lt) (and-right (ltb from e) (leb e hi) above)) behind)
-    go ih false h = and-both above (ih (lt-ltb e d (leb-false d e h)) q (or-false-right (eqb d e) (among d es) r) behind)
+        let ne : d ≡ e → ⊥ = eqb-false d e (or-false-left (eqb d e) (among d es) r) in
+        climbs-more from hi d (e ∷ es) p q (climbs-more d hi e es (omega arith) (parts .1) (parts .2))
+    go ih false h = climbs-more from hi e (inserted d es) (parts .0) (parts .1) (ih (leb-false d e h) q (or-false-right (eqb d e) (among d es) r) (parts .2))
 
 pub ascending-climbs : (hi : ℕ) (ds : List ℕ) → every (λ d. leb 1 d && leb d hi) ds ≡ true → distinct ds ≡ true → climbs 0 hi (ascending ds) ≡ true
 ascending-climbs hi [] v u = refl
 ascending-climbs hi (d ∷ ds) v u =
-    let here : (leb 1 d && leb d hi) ≡ true = and-left (leb 1 d && leb d hi) _ v in
-    inserted-climbs 0 hi d (ascending ds) (and-left (leb 1 d) (leb d hi) here) (and-right (leb 1 d) (leb d hi) here)
+    let here = in-range 1 d hi (and-left (leb 1 d && leb d hi) _ v) in
+    inserted-climbs 0 hi d (ascending ds) (here .0) (here .1)
     (among-ascending d ds ∙ not-true (among d ds) (and-left (not (among d ds)) (distinct ds) u))
     (ascending-climbs hi ds (and-right (leb 1 d && leb d hi) _ v) (and-right (not (among d ds)) (distinct ds) u))
 
@@ -83,14 +81,9 @@ every-inserted : (test : ℕ → Bool) (d : ℕ) (es : List ℕ) → every test 
 every-inserted test d [] = refl
 every-inserted test d (e ∷ es) = go (every-inserted test d es) (leb d e)
   where
-    swap : (a b c : Bool) → (a && (b && c)) ≡ (b && (a && c))
-    swap true b c = refl
-    swap false true c = refl
-    swap false false c = refl
-
     go : every test (inserted d es) ≡ (test d && every test es) → (b : Bool) → every test (choose b (λ _. d ∷ e ∷ es) (λ _. e ∷ inserted d es)) ≡ (test d && (test e && every test es))
     go ih true = refl
-    go ih false = ap (λ (c : Bool). test e && c) ih ∙ swap (test e) (test d) (every test es)
+    go ih false = ap (λ (c : Bool). test e && c) ih ∙ and-left-comm (test e) (test d) (every test es)
 
 pub every-ascending : (test : ℕ → Bool) (ds : List ℕ) → every test (ascending ds) ≡ every test ds
 every-ascending test [] = refl
@@ -99,10 +92,8 @@ every-ascending test (d ∷ ds) = every-inserted test d (ascending ds) ∙ ap (�
 climbs-every : (least from hi : ℕ) (es : List ℕ) → least ≤ from → climbs from hi es ≡ true → every (λ d. ltb least d && leb d hi) es ≡ true
 climbs-every least from hi [] h c = refl
 climbs-every least from hi (e ∷ es) h c =
-    let here : (ltb from e && leb e hi) ≡ true = and-left (ltb from e && leb e hi) (climbs e hi es) c in
-    let up : from < e = ltb-true from e (and-left (ltb from e) (leb e hi) here) in
-    and-both (and-both (lt-ltb least e (omega arith)) (and-right (ltb from e) (leb e hi) here))
-    (climbs-every least e hi es (omega arith) (and-right (ltb from e && leb e hi) (climbs e hi es) c))
+    let k = climbs-parts from hi e es c in
+    and-both (and-both (lt-ltb least e (omega arith)) (le-leb e hi (k .1))) (climbs-every least e hi es (omega arith) (k .2))
 
 pub days-in-range : (hi : ℕ) (ds : List ℕ) → isDays hi (ascending ds) ≡ true → every (λ d. leb 1 d && leb d hi) ds ≡ true
 days-in-range hi ds v = sym (every-ascending (λ d. leb 1 d && leb d hi) ds) ∙ climbs-every 0 0 hi (ascending ds) (omega arith) (and-right (not (isEmpty (ascending ds))) (climbs 0 hi (ascending ds)) v)
@@ -113,25 +104,24 @@ days-some hi ds v = sym (ascending-empty ds) ∙ not-true (isEmpty (ascending ds
 -- A set that ascends is its own ascending list, and holds no day twice.
 pub climbs-same : (from hi : ℕ) (ds : List ℕ) → climbs from hi ds ≡ true → ascending ds ≡ ds
 climbs-same from hi [] c = refl
-climbs-same from hi (d ∷ ds) c =
-    ap (inserted d) (climbs-same d hi ds (and-right (ltb from d && leb d hi) (climbs d hi ds) c)) ∙ first d hi ds (and-right (ltb from d && leb d hi) (climbs d hi ds) c)
+climbs-same from hi (d ∷ ds) c = let k = climbs-parts from hi d ds c in ap (inserted d) (climbs-same d hi ds (k .2)) ∙ first d hi ds (k .2)
   where
     first : (d hi : ℕ) (es : List ℕ) → climbs d hi es ≡ true → inserted d es ≡ d ∷ es
     first d hi [] c = refl
     first d hi (e ∷ es) c =
-        let up : d < e = ltb-true d e (and-left (ltb d e) (leb e hi) (and-left (ltb d e && leb e hi) (climbs e hi es) c)) in
+        let k = climbs-parts d hi e es c in
         ap (λ (b : Bool). choose b (λ _. d ∷ e ∷ es) (λ _. e ∷ inserted d es)) (le-leb d e (omega arith))
 
 among-above : (x from hi : ℕ) (es : List ℕ) → x ≤ from → climbs from hi es ≡ true → among x es ≡ false
 among-above x from hi [] h c = refl
 among-above x from hi (e ∷ es) h c =
-    let up : from < e = ltb-true from e (and-left (ltb from e) (leb e hi) (and-left (ltb from e && leb e hi) (climbs e hi es) c)) in
+    let k = climbs-parts from hi e es c in
     let other : eqb x e ≡ false = ne-eqb x e (λ f. omega arith) in
-    let behind : among x es ≡ false = among-above x e hi es (omega arith) (and-right (ltb from e && leb e hi) (climbs e hi es) c) in
+    let behind : among x es ≡ false = among-above x e hi es (omega arith) (k .2) in
     rw (other, behind)
 
 pub climbs-distinct : (from hi : ℕ) (ds : List ℕ) → climbs from hi ds ≡ true → distinct ds ≡ true
 climbs-distinct from hi [] c = refl
 climbs-distinct from hi (d ∷ ds) c =
-    let behind : climbs d hi ds ≡ true = and-right (ltb from d && leb d hi) (climbs d hi ds) c in
+    let behind = climbs-parts from hi d ds c .2 in
     and-both (ap not (among-above d d hi ds (omega arith) behind)) (climbs-distinct d hi ds behind)

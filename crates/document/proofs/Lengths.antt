@@ -1,28 +1,29 @@
 -- How long a plain text is at most.
-use Prim.Native.Nat.{ℕ, zero, suc, _+_, _*_, _-_, _/_, _%_, _≤_, _<_}
+use Prim.Native.Nat.{ℕ, zero, suc, _+_, _*_, _-_, _/_, _%_, _≤_}
 use mathlib.Core.Path.{_≡_}
 use mathlib.Core.List.{List, [], _∷_}
 use mathlib.Core.Bool.{Bool, true, false, not, _&&_, false≢true}
 use mathlib.Core.Option.{Option, none, some}
 use Prim.Native.String.{String}
 use native.Mathlib.Omega.{arith}
-use lib.Dec.{eqb, leb, ltb}
+use lib.Dec.{eqb, leb}
 use lib.ListN.{length}
-use borrow.Author.Tests.{leb-true, ltb-true, le-leb}
+use borrow.Author.Tests.{le-leb}
 use Rattle.json.specs.Rows.{look, choose}
 use Rattle.json.specs.Tree.{Tree, Members, noMember}
 use Rattle.spelling.proofs.Tables.{each}
 use Rattle.document.specs.Bytes.{bytes}
 use Rattle.document.specs.Posology.{Posology, Day, Zone, east, west, Date, bare, moment, Dosage, simple, fromTo, range, AtTime, atTime, InSegment, inSegment, Timed, dosageOnly, times, daySegments, weekDays, daysOfMonth, interval, Detail, daily, freeText, single, cyclic, sequence, SequenceObject, posologySequence, pause, SequenceObjects, noObject, objectThen}
-use Rattle.document.specs.Date.{among, isDate, inOrder}
-use Rattle.document.specs.Schema.{sequencesInside, underSingle, underDays, underCyclic}
-use Rattle.document.specs.Visit.{isEmpty, recordsAtMost}
-use Rattle.document.specs.Valid.{isText, climbs, isDays, isDuration, isTimeUnit, isMeal, isUnitFor, ifGiven, validTimed, validDetail, validObject, validObjects, someObject, validFields, valid, timedRecords, detailRecords, objectRecords, objectsRecords, strings, Fits}
+use Rattle.document.specs.Date.{among}
+use Rattle.document.specs.Schema.{underSingle, underDays, underCyclic}
+use Rattle.document.specs.Visit.{isEmpty}
+use Rattle.document.specs.Valid.{climbs, isDays, isDuration, isTimeUnit, validTimed, validDetail, validObject, validObjects, someObject, valid, timedRecords, detailRecords, objectRecords, objectsRecords, strings, Fits}
 use Rattle.document.specs.Write.{greatestRoom}
 use Rattle.document.specs.Plain.{two, clock, zoneText, dayText, wholeDigits, fractionDigits, pointed, whole, amount, fieldIf, textTree, timeText, dosageTree, daysTree, timesTree, segmentsTree, timedTree, detailTree, objectTree, objectsTree, Slot, fieldOf, membersOf, mapped, dateTree, reserveTree, headSlots, plainTree, plainThen, plain}
 use Rattle.json.proofs.Truth.{and-left, and-right}
 use Rattle.document.proofs.Good.{detailText, objectText, objectsText, givenText}
-use Rattle.document.proofs.Parts.{all-nine}
+use Rattle.document.proofs.Days.{climbs-parts}
+use Rattle.document.proofs.ValidParts.{valid-parts, few-records}
 use Rattle.document.proofs.Written.{digits-length, fraction-length}
 use Rattle.document.proofs.Accepts.{strings-length}
 use Rattle.document.proofs.Sizes.{escapedSizes, escapedSize, quotedSize, size, membersSize, elementsSize, spell-length, quoted-at-most}
@@ -63,11 +64,9 @@ days-size : (from hi : ℕ) (ds : List ℕ) → hi ≤ 28 → climbs from hi ds 
 unfolding size
 days-size from hi [] h c = omega arith
 days-size from hi (d ∷ ds) h c =
-    let c₁ = and-left (ltb from d && leb d hi) (climbs d hi ds) c in
-    let f : from < d = ltb-true from d (and-left (ltb from d) (leb d hi) c₁) in
-    let g : d ≤ hi = leb-true d hi (and-right (ltb from d) (leb d hi) c₁) in
+    let k = climbs-parts from hi d ds c in
     let a = day-size d (omega arith) in
-    let b = days-size d hi ds h (and-right (ltb from d && leb d hi) (climbs d hi ds) c) in
+    let b = days-size d hi ds h (k .2) in
     omega arith
 
 -- A dosage with its time or its segment: two records.
@@ -234,13 +233,12 @@ head-size p =
 
 -- In front of anything.
 pub plain-then-length : (purpose : ℕ) (p : Posology) (k : List ℕ) → valid purpose p ≡ true → length (plainThen p k) ≤ 6 * length (strings p) + 128 * detailRecords (p .po) + 256 + length k
-unfolding plainThen valid validFields
+unfolding plainThen
 plain-then-length purpose p k v =
-    let w : validFields purpose p ≡ true = and-left (validFields purpose p) (leb (detailRecords (p .po)) recordsAtMost) v in
-    let n = all-nine (ifGiven isDate (p .dtFrom)) (ifGiven isDate (p .dtTo)) (validDetail (p .po) sequencesInside) (ifGiven isMeal (p .relMeal)) (isUnitFor purpose (p .unit)) (ifGiven isText (p .applInstr)) (ifGiven isText (p .roa)) (ifGiven isText (p .moa)) (inOrder (p .dtFrom) (p .dtTo)) w in
+    let n = valid-parts purpose p v in
     let a = spell-length (plainTree p) k in
     let b = head-size p in
-    let c = detail-size (p .po) 3 (n .2) in
+    let c = detail-size (p .po) 3 (n .detail) in
     let d = strings-length p in
     omega arith
 
@@ -250,8 +248,7 @@ plain-length purpose p v = let a = plain-then-length purpose p [] v in omega ari
 
 -- With strings of at most 2,048 bytes it is never longer than 20,736 bytes.
 pub plain-at-most : (purpose : ℕ) (p : Posology) (k : List ℕ) → valid purpose p ≡ true → Fits greatestRoom p → length (plainThen p k) ≤ 20736 + length k
-unfolding valid
 plain-at-most purpose p k v f =
     let a = plain-then-length purpose p k v in
-    let r : detailRecords (p .po) ≤ recordsAtMost = leb-true (detailRecords (p .po)) recordsAtMost (and-right (validFields purpose p) (leb (detailRecords (p .po)) recordsAtMost) v) in
+    let r = few-records purpose p v in
     omega arith

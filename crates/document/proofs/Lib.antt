@@ -10,6 +10,7 @@ pub mod RealDates
 pub mod Makes
 pub mod Sound
 pub mod Parts
+pub mod ValidParts
 pub mod Complete
 pub mod Accepts
 pub mod Utf8Texts

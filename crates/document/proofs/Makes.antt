@@ -3,11 +3,10 @@ use mathlib.Core.Path.{_≡_, refl, ap, subst, _∙_}
 use mathlib.Core.List.{List, [], _∷_}
 use mathlib.Core.Bool.{Bool, true, false, not, _&&_, _||_, cond, false≢true}
 use mathlib.Core.Option.{Option, none, some, Option·getD}
-use Prim.Native.Nat.{ℕ, zero, suc, _+_, _-_, _≤_, _<_}
+use Prim.Native.Nat.{ℕ, zero, suc, _+_, _-_, _<_}
 use native.Mathlib.Omega.{arith}
 use lib.Dec.{eqb, leb, ltb}
 use lib.ListN.{length}
-use borrow.Author.Tests.{leb-true}
 use Rattle.document.specs.Utf8.{isUtf8}
 use Rattle.document.specs.Posology.{Posology, Date, Dosage, AtTime, InSegment, Timed, Detail, sequence, SequenceObject, ordered}
 use Rattle.document.specs.Date.{among, isDate}
@@ -15,6 +14,7 @@ use Rattle.document.specs.Schema.{greatestInteger, aPosology, aDetail, a
 use Rattle.document.specs.Visit.{Left, isEmpty}
 use Rattle.document.specs.Valid.{isAmount, isDuration, isText, isMeal, isUnitFor, ifGiven, every, someObject, validDosage, validTimed, validDetail, validObject, validObjects, validFields, detailRecords, objectRecords, objectsRecords}
 use Rattle.json.proofs.Truth.{and-both, and-left, and-right}
+use Rattle.document.proofs.Ranges.{in-range}
 use Rattle.document.proofs.Good.{sum, recordsOf, textOf, detailText, objectText, objectsText, givenText, Takes, Good, GoodOption, Made}
 
 pub takes-none : {l l′ : Left} → l ≡ l′ → Takes 0 0 l l′
@@ -28,7 +28,7 @@ takes-as e f t = let p = t .taken in let q = t .used in record { taken = omega a
 
 -- A type above the last one.
 pub above : (n t : ℕ) → n < t → (leb 1 t && leb t n) ≡ true → ⊥
-above n t k h = let g : t ≤ n = leb-true _ _ (and-right (leb 1 t) (leb t n) h) in omega arith
+above n t k h = let g = in-range 1 t n h in omega arith
 
 pub sum-two : {A : Type 0} (as′ : List A) → sum (λ _. 2) as′ ≡ length as′ + length as′
 sum-two [] = refl

@@ -1,6 +1,6 @@
 -- Numbers of a plain text are numbers by JSON's grammar.
 use Prim.Native.Nat.{ℕ, zero, suc, _+_, _/_, _%_, _≤_, _<_}
-use mathlib.Core.Path.{_≡_, refl}
+use mathlib.Core.Path.{_≡_, refl, sym}
 use mathlib.Core.List.{List, [], _∷_, _++_}
 use mathlib.Core.Bool.{Bool, true, false, true≢false}
 use native.Mathlib.Omega.{arith}
@@ -13,9 +13,11 @@ use Rattle.json.specs.Grammar.{Digits}
 use Rattle.json.specs.Grammar as G
 use Rattle.json.specs.declared.number.InNumber.{InNumber}
 use Rattle.json.specs.declared.number.InNumber.the-variants.{Start, Zero, Whole, Point, Fraction}
+use Rattle.json.specs.declared.number.DigitStep.{DigitStep}
 use Rattle.json.specs.declared.number.DigitStep.the-variants.{Onward}
+use Rattle.json.proofs.Rows.{between}
+use Rattle.spelling.proofs.Tables.{rowsFrom}
 use Rattle.document.specs.Plain.{wholeDigits, fractionDigits, pointed}
-use Rattle.document.proofs.Ranges.{same-between}
 use Rattle.document.proofs.Written.{Short, six-digits, Falls, falls, fraction-holds}
 
 -- What stands behind a number is no byte of numbers.
@@ -39,19 +41,19 @@ goes n m b s e g k h = G.next e (g k h)
 -- Digits.
 first-digit : (d : ℕ) → 1 ≤ d → d ≤ 9 → onward Start (48 + d) ≡ Onward Whole
 unfolding onward look
-first-digit d p q = same-between (λ b. onward Start b) (45 ∷ 46 ∷ 48 ∷ 49 ∷ 58 ∷ []) 49 58 (48 + d) refl (omega arith) (omega arith) refl
+first-digit d p q = sym (between 49 58 DigitStep (48 + d) (Onward Whole) (rowsFrom 0 (onward Start) (45 ∷ 46 ∷ 48 ∷ 49 ∷ 58 ∷ [])) (omega arith) (omega arith) refl)
 
 digit-more : (d : ℕ) → d ≤ 9 → onward Whole (48 + d) ≡ Onward Whole
 unfolding onward look
-digit-more d q = same-between (λ b. onward Whole b) (46 ∷ 47 ∷ 48 ∷ 58 ∷ 69 ∷ 70 ∷ 101 ∷ 102 ∷ []) 48 58 (48 + d) refl (omega arith) (omega arith) refl
+digit-more d q = sym (between 48 58 DigitStep (48 + d) (Onward Whole) (rowsFrom 0 (onward Whole) (46 ∷ 47 ∷ 48 ∷ 58 ∷ 69 ∷ 70 ∷ 101 ∷ 102 ∷ [])) (omega arith) (omega arith) refl)
 
 digit-behind : (d : ℕ) → d ≤ 9 → onward Point (48 + d) ≡ Onward Fraction
 unfolding onward look
-digit-behind d q = same-between (λ b. onward Point b) (48 ∷ 58 ∷ []) 48 58 (48 + d) refl (omega arith) (omega arith) refl
+digit-behind d q = sym (between 48 58 DigitStep (48 + d) (Onward Fraction) (rowsFrom 0 (onward Point) (48 ∷ 58 ∷ [])) (omega arith) (omega arith) refl)
 
 digit-further : (d : ℕ) → d ≤ 9 → onward Fraction (48 + d) ≡ Onward Fraction
 unfolding onward look
-digit-further d q = same-between (λ b. onward Fraction b) (48 ∷ 58 ∷ 69 ∷ 70 ∷ 101 ∷ 102 ∷ []) 48 58 (48 + d) refl (omega arith) (omega arith) refl
+digit-further d q = sym (between 48 58 DigitStep (48 + d) (Onward Fraction) (rowsFrom 0 (onward Fraction) (48 ∷ 58 ∷ 69 ∷ 70 ∷ 101 ∷ 102 ∷ [])) (omega arith) (omega arith) refl)
 
 a-zero : onward Start 48 ≡ Onward Zero
 unfolding onward look

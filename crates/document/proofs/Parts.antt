@@ -50,7 +50,7 @@ inner c d l l″ t = let a = t .taken in let b = t .used in record { taken = ome
 pub opens : (c d : ℕ) (l l″ : Left) → Takes (1 + c) d l l″ → ltb 0 (l .records) ≡ true
 opens c d l l″ t = let a = t .taken in lt-ltb 0 (l .records) (omega arith)
 
-amount-of : (a : ℕ) → isAmount a ≡ true → (leb 0 a && leb a greatestDecimal) ≡ true
+pub amount-of : (a : ℕ) → isAmount a ≡ true → (leb 0 a && leb a greatestDecimal) ≡ true
 amount-of a h = and-both (leb·zero a) h
 
 amount-below : (a b : ℕ) → ltb a b ≡ true → isAmount b ≡ true → (leb 0 a && leb a greatestDecimal) ≡ true

@@ -7,15 +7,14 @@ use Prim.Native.Nat.{ℕ, zero, suc, _+_, _*_, _≤_}
 use Prim.Native.String.{String}
 use native.Mathlib.Omega.{arith}
 use native.Mathlib.Nat.{max-le}
-use lib.Dec.{eqb, leb}
+use lib.Dec.{eqb}
 use Rattle.json.specs.Tree.{Tree, object, list, Members, noMember, Elements, noElement, element}
 use Rattle.spelling.specs.Depth.{depth, depthOfMembers, depthOfElements}
 use Rattle.document.specs.Posology.{Posology, Dosage, simple, fromTo, range, AtTime, atTime, InSegment, inSegment, Timed, dosageOnly, times, daySegments, weekDays, daysOfMonth, interval, Detail, daily, freeText, single, cyclic, sequence, SequenceObject, posologySequence, pause, SequenceObjects, noObject, objectThen}
-use Rattle.document.specs.Date.{among, isDate, inOrder}
-use Rattle.document.specs.Schema.{underSingle, underDays, underCyclic, sequencesInside}
-use Rattle.document.specs.Valid.{isDays, isDuration, isTimeUnit, validTimed, validDetail, validObject, validObjects, someObject, valid, validFields, detailRecords, ifGiven, isMeal, isUnitFor, isText}
-use Rattle.document.specs.Visit.{recordsAtMost}
-use Rattle.document.proofs.Parts.{all-nine}
+use Rattle.document.specs.Date.{among}
+use Rattle.document.specs.Schema.{underSingle, underDays, underCyclic}
+use Rattle.document.specs.Valid.{isDays, isDuration, isTimeUnit, validTimed, validDetail, validObject, validObjects, someObject, valid}
+use Rattle.document.proofs.ValidParts.{valid-parts}
 use Rattle.document.specs.Plain.{field, fieldIf, typed, whole, dosageTree, daysTree, timesTree, segmentsTree, timedTree, detailTree, objectTree, objectsTree, Slot, fieldOf, membersOf, mapped, textTree, dateTree, reserveTree, headSlots, plainTree, timeText, dateText}
 use Rattle.json.proofs.Truth.{and-left, and-right}
 
@@ -186,10 +185,9 @@ slots-depth [] h = no-depth 15
 slots-depth (s ∷ ss) h = slot-depth (s .name) (s .value) (membersOf ss) 15 (h .0) (slots-depth ss (h .1))
 
 pub plain-depth : (purpose : ℕ) (p : Posology) → valid purpose p ≡ true → depth (plainTree p) ≤ 16
-unfolding plainTree valid validFields
+unfolding plainTree
 plain-depth purpose p v =
-    let w : validFields purpose p ≡ true = and-left (validFields purpose p) (leb (detailRecords (p .po)) recordsAtMost) v in
-    let n = all-nine (ifGiven isDate (p .dtFrom)) (ifGiven isDate (p .dtTo)) (validDetail (p .po) sequencesInside) (ifGiven isMeal (p .relMeal)) (isUnitFor purpose (p .unit)) (ifGiven isText (p .applInstr)) (ifGiven isText (p .roa)) (ifGiven isText (p .moa)) (inOrder (p .dtFrom) (p .dtTo)) w in
+    let n = valid-parts purpose p v in
     object-is (membersOf (headSlots p)) 15 (slots-depth (headSlots p) (
       mapped-shallow dateTree (p .dtFrom) (λ d. text-depth (dateText d) 15),
       (
@@ -197,7 +195,7 @@ plain-depth purpose p v =
         (
           reserve-shallow (p .inRes),
           (
-            detail-depth (p .po) 3 (n .2),
+            detail-depth (p .po) 3 (n .detail),
             (mapped-shallow whole (p .relMeal) (λ m. whole-depth m 15), (mapped-shallow textTree (p .unit) (λ cs. text-depth cs 15), (mapped-shallow textTree (p .applInstr) (λ cs. text-depth cs 15), (mapped-shallow textTree (p .roa) (λ cs. text-depth cs 15), (mapped-shallow textTree (p .moa) (λ cs. text-depth cs 15), tt))))),
           ),
         ),

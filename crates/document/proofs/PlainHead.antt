@@ -3,23 +3,24 @@ use mathlib.Core.Path.{_≡_, refl, ap, sym, subst, _∙_}
 use mathlib.Core.List.{List, [], _∷_}
 use mathlib.Core.Bool.{Bool, true, false, not, _&&_}
 use mathlib.Core.Option.{Option, none, some, Option·getD}
-use Prim.Native.Nat.{ℕ, _≤_}
+use Prim.Native.Nat.{ℕ}
 use native.Mathlib.Omega.{arith}
-use lib.Dec.{leb}
-use borrow.Author.Tests.{leb-true, not-true}
+use borrow.Author.Tests.{not-true}
 use Rattle.json.specs.Tree.{Tree}
 use Rattle.document.specs.Bytes.{bytes}
 use Rattle.document.specs.Utf8.{isUtf8}
 use Rattle.document.specs.Posology.{Posology, Date, bare, moment}
-use Rattle.document.specs.Date.{isDate, inOrder}
+use Rattle.document.specs.Date.{isDate}
 use Rattle.document.specs.Lookup.{same, has, orElse, Found, nothing, add, find, repeated, unknown}
 use Rattle.document.specs.Schema.{mealCodes, sequencesInside, aDetail, integer, date, aNumber, aString, aFlag, anObject, aText, Shape, Of, names, posologyRows, rowsOf}
 use Rattle.document.specs.Visit.{isEmpty}
-use Rattle.document.specs.Valid.{isText, isMeal, isUnitFor, ifGiven, valid, validFields, validDetail, detailRecords}
+use Rattle.document.specs.Valid.{isText, isMeal, ifGiven, valid}
 use Rattle.document.specs.Spells.{Meaning, Given, Perhaps, meaningOf, meantMembers, Means}
 use Rattle.document.specs.Plain.{Slot, fieldOf, membersOf, mapped, textTree, dateTree, reserveTree, whole, headSlots, detailTree, plainTree, dateText}
 use Rattle.json.proofs.Truth.{and-left, and-right}
-use Rattle.document.proofs.Parts.{all-nine, unit-text}
+use Rattle.document.proofs.Ranges.{in-range}
+use Rattle.document.proofs.Parts.{unit-text}
+use Rattle.document.proofs.ValidParts.{valid-parts}
 use Rattle.document.proofs.Written.{whole-means}
 use Rattle.document.proofs.WrittenDates.{date-reads}
 use Rattle.document.proofs.PlainMeans.{detail-means, given-object}
@@ -96,7 +97,7 @@ date-slot (some d) v = (date-some d, date-reads d v)
 meal-slot : (m : Option ℕ) → ifGiven isMeal m ≡ true → Perhaps (aNumber (integer 1 mealCodes)) (found true (mapped whole m) nothing) m
 unfolding meaningOf
 meal-slot none v = tt
-meal-slot (some m) v = let h : m ≤ mealCodes = leb-true m mealCodes (and-right (leb 1 m) (leb m mealCodes) v) in (refl, whole-means 1 mealCodes m (omega arith))
+meal-slot (some m) v = let h = in-range 1 m mealCodes v in (refl, whole-means 1 mealCodes m (omega arith))
 
 abbrev reserve : Bool → Option Bool
 reserve true = some true
@@ -122,40 +123,39 @@ module _ (p : Posology) where
   given-slot n s x h = subst (λ (f : Found Meaning). Given s f x) (sym (find-slot n (headSlots p))) h
 
 pub plain-means : (purpose : ℕ) (p : Posology) → valid purpose p ≡ true → Means (plainTree p) p
-unfolding plainTree meaningOf rowsOf valid validFields
+unfolding plainTree meaningOf rowsOf
 plain-means purpose p v =
-    let w : validFields purpose p ≡ true = and-left (validFields purpose p) (leb (detailRecords (p .po)) 64) v in
-    let n = all-nine (ifGiven isDate (p .dtFrom)) (ifGiven isDate (p .dtTo)) (validDetail (p .po) sequencesInside) (ifGiven isMeal (p .relMeal)) (isUnitFor purpose (p .unit)) (ifGiven isText (p .applInstr)) (ifGiven isText (p .roa)) (ifGiven isText (p .moa)) (inOrder (p .dtFrom) (p .dtTo)) w in (
+    let n = valid-parts purpose p v in (
       apart-slots [] (headSlots p) refl,
       (
         known-slots (names (posologyRows true)) (headSlots p) refl,
         (
           p .dtFrom,
-          perhaps-slot p (bytes "dtFrom") (aString date) (p .dtFrom) (date-slot (p .dtFrom) (n .0)),
+          perhaps-slot p (bytes "dtFrom") (aString date) (p .dtFrom) (date-slot (p .dtFrom) (n .from)),
           (
             p .dtTo,
-            perhaps-slot p (bytes "dtTo") (aString date) (p .dtTo) (date-slot (p .dtTo) (n .1)),
+            perhaps-slot p (bytes "dtTo") (aString date) (p .dtTo) (date-slot (p .dtTo) (n .to)),
             (
               reserve (p .inRes),
               perhaps-slot p (bytes "inRes") aFlag (reserve (p .inRes)) (flag-slot (p .inRes)),
               (
                 p .po,
-                given-slot p (bytes "po") (anObject (aDetail sequencesInside)) (p .po) (given-object (detailTree (p .po)) (aDetail sequencesInside) (p .po) (detail-means (p .po) sequencesInside sequencesInside (n .2))),
+                given-slot p (bytes "po") (anObject (aDetail sequencesInside)) (p .po) (given-object (detailTree (p .po)) (aDetail sequencesInside) (p .po) (detail-means (p .po) sequencesInside sequencesInside (n .detail))),
                 (
                   p .relMeal,
-                  perhaps-slot p (bytes "relMeal") (aNumber (integer 1 mealCodes)) (p .relMeal) (meal-slot (p .relMeal) (n .3)),
+                  perhaps-slot p (bytes "relMeal") (aNumber (integer 1 mealCodes)) (p .relMeal) (meal-slot (p .relMeal) (n .meal)),
                   (
                     p .unit,
-                    perhaps-slot p (bytes "unit") aText (p .unit) (text-slot (p .unit) (unit-text purpose (p .unit) (n .4))),
+                    perhaps-slot p (bytes "unit") aText (p .unit) (text-slot (p .unit) (unit-text purpose (p .unit) (n .unit))),
                     (
                       p .applInstr,
-                      perhaps-slot p (bytes "applInstr") aText (p .applInstr) (text-slot (p .applInstr) (n .5)),
+                      perhaps-slot p (bytes "applInstr") aText (p .applInstr) (text-slot (p .applInstr) (n .instructions)),
                       (
                         p .roa,
-                        perhaps-slot p (bytes "roa") aText (p .roa) (text-slot (p .roa) (n .6)),
+                        perhaps-slot p (bytes "roa") aText (p .roa) (text-slot (p .roa) (n .roa)),
                         (
                           p .moa,
-                          perhaps-slot p (bytes "moa") aText (p .moa) (text-slot (p .moa) (n .7)),
+                          perhaps-slot p (bytes "moa") aText (p .moa) (text-slot (p .moa) (n .moa)),
                           ap (with-reserve p) (reserved (p .inRes)),
                         ),
                       ),

@@ -18,15 +18,16 @@ use Rattle.document.specs.Spells.{meaningOf, meantElements, EachMeans, E
 use Rattle.document.specs.Plain as P
 use Rattle.document.specs.Plain.{wholeDigits, dosageTree, daysTree, timesTree, segmentsTree, timedTree, detailTree, objectTree, objectsTree}
 use Rattle.json.proofs.Truth.{and-left, and-right}
-use Rattle.document.proofs.Days.{climbs-same, climbs-distinct}
+use Rattle.document.proofs.Ranges.{in-range}
+use Rattle.document.proofs.Days.{climbs-parts, climbs-same, climbs-distinct}
 use Rattle.document.proofs.Written.{whole-means, amount-means}
 use Rattle.document.proofs.WrittenDates.{time-reads}
 
 pub duration : (n : ℕ) → isDuration n ≡ true → n ≤ 999999
-duration n v = let h : n ≤ greatestInteger = leb-true n greatestInteger (and-right (leb 1 n) (leb n greatestInteger) v) in omega arith
+duration n v = let h = in-range 1 n greatestInteger v in omega arith
 
 pub unit : (n : ℕ) → isTimeUnit n ≡ true → n ≤ 999999
-unit n v = let h : n ≤ 7 = leb-true n 7 (and-right (leb 1 n) (leb n 7) v) in omega arith
+unit n v = let h = in-range 1 n 7 v in omega arith
 
 pub amount : (n : ℕ) → isAmount n ≡ true → n ≤ 999999999999
 amount n v = leb-true n greatestDecimal v
@@ -110,7 +111,7 @@ unfolding meaningOf rowsOf
 segments-mean [] v = tt
 segments-mean (inSegment d s ∷ ss) v =
     let v₁ = and-left (validDosage d && (leb 1 s && leb s 4)) (every validInSegment ss) v in
-    let h : s ≤ 4 = leb-true s 4 (and-right (leb 1 s) (leb s 4) (and-right (validDosage d) (leb 1 s && leb s 4) v₁)) in (
+    let h = in-range 1 s 4 (and-right (validDosage d) (leb 1 s && leb s 4) v₁) in (
       (refl, (refl, (d, given-object (dosageTree d) aDosage d (dosage-means d (and-left (validDosage d) (leb 1 s && leb s 4) v₁)), (s, (refl, whole-means 1 4 s (omega arith)), refl)))),
       segments-mean ss (and-right (validDosage d && (leb 1 s && leb s 4)) (every validInSegment ss) v),
     )
@@ -118,9 +119,7 @@ segments-mean (inSegment d s ∷ ss) v =
 each-day : (hi from : ℕ) (ds : List ℕ) → hi ≤ 28 → climbs from hi ds ≡ true → EachMeans (aNumber (integer 1 hi)) (meantElements (daysTree ds)) ds
 unfolding meaningOf
 each-day hi from [] h c = tt
-each-day hi from (d ∷ ds) h c =
-    let g : d ≤ hi = leb-true d hi (and-right (ltb from d) (leb d hi) (and-left (ltb from d && leb d hi) (climbs d hi ds) c)) in
-    (whole-means 1 hi d (omega arith), each-day hi d ds h (and-right (ltb from d && leb d hi) (climbs d hi ds) c))
+each-day hi from (d ∷ ds) h c = let k = climbs-parts from hi d ds c in (whole-means 1 hi d (omega arith), each-day hi d ds h (k .2))
 
 days-mean : (hi : ℕ) (ds : List ℕ) → hi ≤ 28 → isDays hi ds ≡ true → ElementsMean (days hi) (meantElements (daysTree ds)) ds
 days-mean hi ds h v = let c = and-right (not (isEmpty ds)) (climbs 0 hi ds) v in (ds, each-day hi 0 ds h c, climbs-distinct 0 hi ds c, climbs-same 0 hi ds c)

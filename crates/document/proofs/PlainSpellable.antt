@@ -13,13 +13,15 @@ use Rattle.json.specs.Tree.{Tree, Members, noMember}
 use Rattle.document.specs.Bytes.{bytes}
 use Rattle.document.specs.Utf8.{wellFormed, isUtf8}
 use Rattle.document.specs.Posology.{Posology, Day, Zone, east, west, Date, bare, moment, Dosage, simple, fromTo, range, AtTime, atTime, InSegment, inSegment, Timed, dosageOnly, times, daySegments, weekDays, daysOfMonth, interval, Detail, daily, freeText, single, cyclic, sequence, SequenceObject, posologySequence, pause, SequenceObjects, noObject, objectThen}
-use Rattle.document.specs.Date.{among, isDay, isSecond, isZone, isDate, inOrder}
+use Rattle.document.specs.Date.{among, isDay, isSecond, isZone, isDate}
 use Rattle.document.specs.Schema.{mealCodes, sequencesInside, underSingle, underDays, underCyclic}
-use Rattle.document.specs.Visit.{isEmpty, recordsAtMost}
-use Rattle.document.specs.Valid.{isAmount, isDuration, isTimeUnit, isText, climbs, isDays, every, isMeal, isUnitFor, ifGiven, validDosage, validAtTime, validInSegment, validTimed, validDetail, validObject, validObjects, someObject, validFields, valid, detailRecords}
+use Rattle.document.specs.Visit.{isEmpty}
+use Rattle.document.specs.Valid.{isAmount, isDuration, isTimeUnit, isText, climbs, isDays, every, isMeal, isUnitFor, ifGiven, validDosage, validAtTime, validInSegment, validTimed, validDetail, validObject, validObjects, someObject, valid}
 use Rattle.document.specs.Plain.{two, clock, timeText, dayText, zoneText, dateText, fieldIf, whole, textTree, dosageTree, daysTree, timesTree, segmentsTree, timedTree, detailTree, objectTree, objectsTree, Slot, fieldOf, membersOf, mapped, dateTree, reserveTree, headSlots}
 use Rattle.json.proofs.Truth.{and-left, and-right}
-use Rattle.document.proofs.Parts.{all-nine}
+use Rattle.document.proofs.Ranges.{in-range}
+use Rattle.document.proofs.Days.{climbs-parts}
+use Rattle.document.proofs.ValidParts.{valid-parts}
 use Rattle.document.proofs.WrittenDates.{small-day}
 use Rattle.document.proofs.PlainMeans.{duration, unit, amount, lesser}
 use Rattle.document.proofs.Numerals.{whole-numeral, amount-numeral}
@@ -58,7 +60,7 @@ day-ascii d k v u =
 
 zone-ascii : (z : Zone) → isZone z ≡ true → isUtf8 (zoneText z) ≡ true
 zone-ascii (east n) v = let h : n ≤ 840 = leb-true n 840 v in ascii-first 43 (clock n []) (omega arith) (clock-ascii n [] (omega arith) no-byte)
-zone-ascii (west n) v = let h : n ≤ 840 = leb-true n 840 (and-right (leb 1 n) (leb n 840) v) in ascii-first 45 (clock n []) (omega arith) (clock-ascii n [] (omega arith) no-byte)
+zone-ascii (west n) v = let h = in-range 1 n 840 v in ascii-first 45 (clock n []) (omega arith) (clock-ascii n [] (omega arith) no-byte)
 
 date-ascii : (d : Date) → isDate d ≡ true → isUtf8 (dateText d) ≡ true
 date-ascii (bare d) v = day-ascii d [] v no-byte
@@ -116,15 +118,13 @@ unfolding Spellable isUtf8 wellFormed look
 segments-spell [] v = tt
 segments-spell (inSegment d s ∷ ss) v =
     let v₁ = and-left (validDosage d && (leb 1 s && leb s 4)) (every validInSegment ss) v in
-    let h : s ≤ 4 = leb-true s 4 (and-right (leb 1 s) (leb s 4) (and-right (validDosage d) (leb 1 s && leb s 4) v₁)) in
+    let h = in-range 1 s 4 (and-right (validDosage d) (leb 1 s && leb s 4) v₁) in
     ((refl, (dosage-spells d (and-left (validDosage d) (leb 1 s && leb s 4) v₁), (refl, (whole-numeral s (omega arith), tt)))), segments-spell ss (and-right (validDosage d && (leb 1 s && leb s 4)) (every validInSegment ss) v))
 
 each-day : (hi from : ℕ) (ds : List ℕ) → hi ≤ 28 → climbs from hi ds ≡ true → SpellableElements (daysTree ds)
 unfolding Spellable
 each-day hi from [] h c = tt
-each-day hi from (d ∷ ds) h c =
-    let g : d ≤ hi = leb-true d hi (and-right (ltb from d) (leb d hi) (and-left (ltb from d && leb d hi) (climbs d hi ds) c)) in
-    (whole-numeral d (omega arith), each-day hi d ds h (and-right (ltb from d && leb d hi) (climbs d hi ds) c))
+each-day hi from (d ∷ ds) h c = let k = climbs-parts from hi d ds c in (whole-numeral d (omega arith), each-day hi d ds h (k .2))
 
 days-spell : (hi : ℕ) (ds : List ℕ) → hi ≤ 28 → isDays hi ds ≡ true → SpellableElements (daysTree ds)
 days-spell hi ds h v = each-day hi 0 ds h (and-right (not (isEmpty ds)) (climbs 0 hi ds) v)
@@ -278,7 +278,7 @@ flag-slot false = tt
 meal-slot : (o : Option ℕ) → ifGiven isMeal o ≡ true → SpellableIf (mapped whole o)
 unfolding Spellable
 meal-slot none v = tt
-meal-slot (some m) v = let h : m ≤ mealCodes = leb-true m mealCodes (and-right (leb 1 m) (leb m mealCodes) v) in whole-numeral m (omega arith)
+meal-slot (some m) v = let h = in-range 1 m mealCodes v in whole-numeral m (omega arith)
 
 text-slot : (o : Option (List ℕ)) → ifGiven isText o ≡ true → SpellableIf (mapped textTree o)
 unfolding Spellable
@@ -291,18 +291,17 @@ unit-slot purpose none v = tt
 unit-slot purpose (some cs) v = and-right (not (isEmpty cs)) (isUtf8 cs) v
 
 pub plain-spellable : (purpose : ℕ) (p : Posology) → valid purpose p ≡ true → SpellableMembers (membersOf (headSlots p))
-unfolding valid validFields isUtf8 wellFormed look
+unfolding isUtf8 wellFormed look
 plain-spellable purpose p v =
-    let w : validFields purpose p ≡ true = and-left (validFields purpose p) (leb (detailRecords (p .po)) recordsAtMost) v in
-    let n = all-nine (ifGiven isDate (p .dtFrom)) (ifGiven isDate (p .dtTo)) (validDetail (p .po) sequencesInside) (ifGiven isMeal (p .relMeal)) (isUnitFor purpose (p .unit)) (ifGiven isText (p .applInstr)) (ifGiven isText (p .roa)) (ifGiven isText (p .moa)) (inOrder (p .dtFrom) (p .dtTo)) w in
+    let n = valid-parts purpose p v in
     slots-spell (headSlots p) (
       refl,
       (
-        date-slot (p .dtFrom) (n .0),
+        date-slot (p .dtFrom) (n .from),
         (
           refl,
           (
-            date-slot (p .dtTo) (n .1),
+            date-slot (p .dtTo) (n .to),
             (
               refl,
               (
@@ -310,16 +309,16 @@ plain-spellable purpose p v =
                 (
                   refl,
                   (
-                    detail-spells (p .po) sequencesInside (n .2),
+                    detail-spells (p .po) sequencesInside (n .detail),
                     (
                       refl,
                       (
-                        meal-slot (p .relMeal) (n .3),
+                        meal-slot (p .relMeal) (n .meal),
                         (
                           refl,
                           (
-                            unit-slot purpose (p .unit) (n .4),
-                            (refl, (text-slot (p .applInstr) (n .5), (refl, (text-slot (p .roa) (n .6), (refl, (text-slot (p .moa) (n .7), tt)))))),
+                            unit-slot purpose (p .unit) (n .unit),
+                            (refl, (text-slot (p .applInstr) (n .instructions), (refl, (text-slot (p .roa) (n .roa), (refl, (text-slot (p .moa) (n .moa), tt)))))),
                           ),
                         ),
                       ),

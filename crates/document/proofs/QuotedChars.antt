@@ -2,33 +2,37 @@
 use Prim.Native.Nat.{ℕ, _+_, _/_, _%_, _≤_, _<_}
 use mathlib.Core.Path.{_≡_, refl, ap, sym, subst, _∙_}
 use mathlib.Core.List.{List, [], _∷_}
-use mathlib.Core.Bool.{true}
+use mathlib.Core.Bool.{Bool, true}
 use native.Mathlib.Omega.{arith}
 use borrow.Author.Tests.{lt-ltb, le-ltb}
-use Rattle.json.specs.Rows.{else, below, look}
+use Rattle.json.specs.Rows.{Rows, else, below, look}
 use Rattle.json.specs.Byte.{isTail, isHex, isD, digit, utf8}
 use Rattle.json.specs.String.{lead, letter}
 use Rattle.json.specs.Grammar.{Char, Chars, four}
 use Rattle.json.specs.Grammar as G
+use Rattle.json.specs.declared.string.Lead.{Lead}
 use Rattle.json.specs.declared.string.Lead.the-variants.{Ascii, Two, E0, Three, Ed, F0, Four, F4}
 use Rattle.json.specs.declared.string.Letter.the-variants.{Means}
 use Rattle.spelling.specs.Utf8.{Utf8}
 use Rattle.spelling.specs.Utf8 as U
-use Rattle.spelling.proofs.Tables.{each}
+use Rattle.spelling.proofs.Tables.{each, rowsFrom}
 use Rattle.spelling.proofs.Bytes.{leadBounds}
+use Rattle.json.proofs.Rows.{between, beyond}
 use Rattle.document.specs.Utf8.{isUtf8}
 use Rattle.document.specs.Spell.{hexDigit, control, escaped, quoted}
-use Rattle.document.proofs.Ranges.{same-between}
 use Rattle.document.proofs.Sizes.{escapedRows}
 use Rattle.document.proofs.Utf8Texts.{is-within}
 use Rattle.document.proofs.Utf8Sequences.{tested-utf8}
 
 -- Control bytes: \u00 and two digits.
+abbrev hexRows : Rows Bool
+hexRows = rowsFrom 0 isHex (48 ∷ 58 ∷ 65 ∷ 71 ∷ 97 ∷ 103 ∷ [])
+
 hex-is : (n : ℕ) → n < 16 → isHex (hexDigit n) ≡ true
 unfolding isHex look
 hex-is n h = each (λ b. isHex b ≡ true) 0 n (below 10 (48 + n) (else (87 + n))) (omega arith) (
-  λ l g. same-between isHex (48 ∷ 58 ∷ 65 ∷ 71 ∷ 97 ∷ 103 ∷ []) 48 58 (48 + n) refl (omega arith) (omega arith) refl,
-  λ l. same-between isHex (48 ∷ 58 ∷ 65 ∷ 71 ∷ 97 ∷ 103 ∷ []) 97 103 (87 + n) refl (omega arith) (omega arith) refl,
+  λ l g. sym (between 48 58 Bool (48 + n) true hexRows (omega arith) (omega arith) refl),
+  λ l. sym (between 97 103 Bool (87 + n) true hexRows (omega arith) (omega arith) refl),
 )
 
 hex-counts : (n : ℕ) → n < 16 → digit (hexDigit n) ≡ n
@@ -59,17 +63,20 @@ control-char b k h =
 letter-char : (b m e : ℕ) (k : List ℕ) → b ≡ m → letter e ≡ Means m → Char (b ∷ []) (92 ∷ e ∷ k) k
 letter-char b m e k h l = subst (λ (n : ℕ). Char (n ∷ []) (92 ∷ e ∷ k) k) (sym h) (G.short l)
 
+abbrev leadRows : Rows Lead
+leadRows = rowsFrom 0 lead leadBounds
+
 lead-low : (b : ℕ) → 32 ≤ b → b < 34 → lead b ≡ Ascii
 unfolding lead look
-lead-low b p q = same-between lead leadBounds 32 34 b refl p q refl
+lead-low b p q = sym (between 32 34 Lead b Ascii leadRows p q refl)
 
 lead-middle : (b : ℕ) → 35 ≤ b → b < 92 → lead b ≡ Ascii
 unfolding lead look
-lead-middle b p q = same-between lead leadBounds 35 92 b refl p q refl
+lead-middle b p q = sym (between 35 92 Lead b Ascii leadRows p q refl)
 
 lead-high : (b : ℕ) → 93 ≤ b → b < 128 → lead b ≡ Ascii
 unfolding lead look
-lead-high b p q = same-between lead leadBounds 93 128 b refl p q refl
+lead-high b p q = sym (between 93 128 Lead b Ascii leadRows p q refl)
 
 escaped-char : (b : ℕ) (k : List ℕ) → b < 128 → Char (b ∷ []) (escaped b k) k
 unfolding escaped letter look
@@ -114,43 +121,7 @@ escaped-char b k h = each (λ s. Char (b ∷ []) s k) 0 b (escapedRows b k) (ome
 -- Bytes from 128 on stand as they are.
 as-it-is : (b : ℕ) (k : List ℕ) → 128 ≤ b → escaped b k ≡ b ∷ k
 unfolding escaped
-as-it-is b k h = each (λ s. s ≡ b ∷ k) 0 b (escapedRows b k) (omega arith) (
-  λ l g. absurd (omega arith),
-  (
-    λ l g. absurd (omega arith),
-    (
-      λ l g. absurd (omega arith),
-      (
-        λ l g. absurd (omega arith),
-        (
-          λ l g. absurd (omega arith),
-          (
-            λ l g. absurd (omega arith),
-            (
-              λ l g. absurd (omega arith),
-              (
-                λ l g. absurd (omega arith),
-                (
-                  λ l g. absurd (omega arith),
-                  (
-                    λ l g. absurd (omega arith),
-                    (
-                      λ l g. absurd (omega arith),
-                      (
-                        λ l g. absurd (omega arith),
-                        λ l. refl,
-                      ),
-                    ),
-                  ),
-                ),
-              ),
-            ),
-          ),
-        ),
-      ),
-    ),
-  ),
-)
+as-it-is b k h = sym (beyond 93 (List ℕ) b (b ∷ k) (escapedRows b k) (omega arith) refl)
 
 is-tail : (b : ℕ) → 0x80 ≤ b → b ≤ 0xBF → isTail b ≡ true
 unfolding isTail
@@ -159,35 +130,35 @@ is-tail b p q = is-within 0x80 0xC0 b p (omega arith)
 -- First bytes of sequences.
 leads-two : (b : ℕ) → 0xC2 ≤ b → b ≤ 0xDF → lead b ≡ Two
 unfolding lead look
-leads-two b p q = same-between lead leadBounds 0xC2 0xE0 b refl p (omega arith) refl
+leads-two b p q = sym (between 0xC2 0xE0 Lead b Two leadRows p (omega arith) refl)
 
 leads-E0 : (b : ℕ) → 0xE0 ≤ b → b ≤ 0xE0 → lead b ≡ E0
 unfolding lead look
-leads-E0 b p q = same-between lead leadBounds 0xE0 0xE1 b refl p (omega arith) refl
+leads-E0 b p q = sym (between 0xE0 0xE1 Lead b E0 leadRows p (omega arith) refl)
 
 leads-E1 : (b : ℕ) → 0xE1 ≤ b → b ≤ 0xEC → lead b ≡ Three
 unfolding lead look
-leads-E1 b p q = same-between lead leadBounds 0xE1 0xED b refl p (omega arith) refl
+leads-E1 b p q = sym (between 0xE1 0xED Lead b Three leadRows p (omega arith) refl)
 
 leads-ED : (b : ℕ) → 0xED ≤ b → b ≤ 0xED → lead b ≡ Ed
 unfolding lead look
-leads-ED b p q = same-between lead leadBounds 0xED 0xEE b refl p (omega arith) refl
+leads-ED b p q = sym (between 0xED 0xEE Lead b Ed leadRows p (omega arith) refl)
 
 leads-EE : (b : ℕ) → 0xEE ≤ b → b ≤ 0xEF → lead b ≡ Three
 unfolding lead look
-leads-EE b p q = same-between lead leadBounds 0xEE 0xF0 b refl p (omega arith) refl
+leads-EE b p q = sym (between 0xEE 0xF0 Lead b Three leadRows p (omega arith) refl)
 
 leads-F0 : (b : ℕ) → 0xF0 ≤ b → b ≤ 0xF0 → lead b ≡ F0
 unfolding lead look
-leads-F0 b p q = same-between lead leadBounds 0xF0 0xF1 b refl p (omega arith) refl
+leads-F0 b p q = sym (between 0xF0 0xF1 Lead b F0 leadRows p (omega arith) refl)
 
 leads-F1 : (b : ℕ) → 0xF1 ≤ b → b ≤ 0xF3 → lead b ≡ Four
 unfolding lead look
-leads-F1 b p q = same-between lead leadBounds 0xF1 0xF4 b refl p (omega arith) refl
+leads-F1 b p q = sym (between 0xF1 0xF4 Lead b Four leadRows p (omega arith) refl)
 
 leads-F4 : (b : ℕ) → 0xF4 ≤ b → b ≤ 0xF4 → lead b ≡ F4
 unfolding lead look
-leads-F4 b p q = same-between lead leadBounds 0xF4 0xF5 b refl p (omega arith) refl
+leads-F4 b p q = sym (between 0xF4 0xF5 Lead b F4 leadRows p (omega arith) refl)
 
 -- What stands as it is.
 two-are : (b c : ℕ) (k : List ℕ) → 128 ≤ b → 128 ≤ c → escaped b (escaped c k) ≡ b ∷ c ∷ k

@@ -19,6 +19,7 @@ use Rattle.document.specs.Date.{dateOf, timeOf}
 use Rattle.document.specs.Lookup.{Entry, same, has, orElse, Found, nothing, one, twice, add, find, repeated, unknown}
 use Rattle.document.specs.Schema.{Family, aPosology, NumberShape, integer, decimal, StringShape, text, date, time, ListShape, fourDecimals, days, some-objects, any-objects, Shape, aNumber, aString, aFlag, anObject, aList, Rows, need, may, gives, gives-if, rowsOf, typesOf, isRecord, mayStand, mayOpen, names}
 use Rattle.document.specs.Visit.{Left, recordLess, Outcome, done, refuse, bind, guard, unless, Value, needed, present, optional, fields, opening, body, placeOf, typed, byType, members, whole, millionths, digits, orRefused, chars, each, isEmpty, distinct, decimals, elements, ofNumber, ofString, ofBool, ofObject, ofList, valueOf, entriesOf, valuesOf, visit, recordsAtMost}
+use Rattle.json.proofs.Truth.{and-left-comm, or-left-comm}
 use Rattle.document.proofs.Same.{same-sym}
 use Rattle.document.specs.Same as S
 use Rattle.document.specs.Same.{Reordered, ReorderedMembers, ReorderedElements}
@@ -120,11 +121,6 @@ orElse-none : (b : Bool) (p : Place) (x : Option Place) → isNone (orElse b p x
 orElse-none true p x = refl
 orElse-none false p x = refl
 
-and-left-comm : (a b c : Bool) → (a && (b && c)) ≡ (b && (a && c))
-and-left-comm true b c = refl
-and-left-comm false true c = refl
-and-left-comm false false c = refl
-
 unknown-alike : (k : List (List ℕ)) {es ds : List (Entry Value)} → AlikeEntries es ds → isNone (unknown k es) ≡ isNone (unknown k ds)
 unknown-alike k no-entry = refl
 unknown-alike k (next-entry {n = n} h t) = simp orElse-none (rw (unknown-alike k t))
@@ -134,11 +130,6 @@ unknown-alike k (twice-entry s t) = unknown-alike k s ∙ unknown-alike k t
 repeated-seen : (k l : List (List ℕ)) → ((n : List ℕ) → has n k ≡ has n l) → (es : List (Entry Value)) → isNone (repeated k es) ≡ isNone (repeated l es)
 repeated-seen k l h [] = refl
 repeated-seen k l h (e ∷ es) = simp orElse-none (rw (h (e .name), repeated-seen (e .name ∷ k) (e .name ∷ l) (λ n. rw (h n)) es))
-
-or-left-comm : (a b c : Bool) → (a || (b || c)) ≡ (b || (a || c))
-or-left-comm true true c = refl
-or-left-comm true false c = refl
-or-left-comm false b c = refl
 
 swap-bools : (a b d x : Bool) → (not a && (not (d || b) && x)) ≡ (not b && (not (d || a) && x))
 swap-bools true true true x = refl

@@ -1,13 +1,24 @@
--- The strings of a posology, one behind the other, and how many bytes they have.
+-- The strings of a posology, one behind the other, and how many bytes they have; and whether a string is empty, by how many it has.
 use Prim.Native.Nat.{ℕ, _+_}
 use mathlib.Core.Path.{_≡_, refl, sym, ap, _∙_}
-use mathlib.Core.List.{List, [], _++_, append-assoc, append-nil}
+use mathlib.Core.List.{List, [], _∷_, _++_, append-assoc, append-nil}
+use mathlib.Core.Bool.{true, false}
 use mathlib.Core.Option.{Option, none, some}
+use native.Mathlib.Omega.{arith}
 use lib.ListN.{length, length-append}
 use Rattle.document.specs.Posology.{Posology}
 use Rattle.document.specs.Table.{lengthOf}
+use Rattle.document.specs.Visit.{isEmpty}
 use Rattle.document.specs.Valid.{given, strings, detailStrings}
 use Rattle.document.proofs.Untables.{joined-append, detail-append}
+
+pub empty-of-length : (cs : List ℕ) → length cs ≡ 0 → isEmpty cs ≡ true
+empty-of-length [] e = refl
+empty-of-length (c ∷ cs) e = absurd (omega arith)
+
+pub some-of-length : (cs : List ℕ) → (length cs ≡ 0 → ⊥) → isEmpty cs ≡ false
+some-of-length [] e = absurd (e refl)
+some-of-length (c ∷ cs) e = refl
 
 given-is : (o : Option (List ℕ)) (k : List ℕ) → given o k ≡ given o [] ++ k
 given-is none k = refl

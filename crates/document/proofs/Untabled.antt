@@ -5,23 +5,25 @@ use mathlib.Core.Bool.{Bool, true, false, cond, not, true≢false}
 use mathlib.Core.Option.{Option, none, some, Option·getD}
 use Prim.Native.Nat.{ℕ, zero, suc, _+_, _-_, _≤_}
 use native.Mathlib.Omega.{arith}
-use lib.Dec.{eqb, leb}
+use lib.Dec.{eqb}
 use lib.ListN.{length, replicate, length-append}
-use borrow.Author.Tests.{leb-true, ne-eqb, not-true}
+use borrow.Author.Tests.{ne-eqb, not-true}
 use Rattle.document.specs.Posology as P
 use Rattle.document.specs.Posology.{Posology, AtTime, InSegment, Timed, Detail, SequenceObject, SequenceObjects}
-use Rattle.document.specs.Date.{isDate, inOrder}
+use Rattle.document.specs.Date.{inOrder}
 use Rattle.document.specs.Utf8.{isUtf8}
 use Rattle.document.specs.Schema.{mealCodes, sequencesInside}
-use Rattle.document.specs.Visit.{isEmpty, recordsAtMost}
-use Rattle.document.specs.Valid.{isText, isMeal, isUnitFor, ifGiven, valid, validFields, validDetail, timedRecords, detailRecords, objectRecords, objectsRecords, given, detailStrings, objectStrings, strings}
+use Rattle.document.specs.Visit.{isEmpty}
+use Rattle.document.specs.Valid.{isText, isMeal, ifGiven, valid, validDetail, timedRecords, detailRecords, objectRecords, objectsRecords, given, detailStrings, objectStrings, strings}
 use Rattle.document.specs.Table.{recordsInTable, noRecord, dateCell, textCell, lengthOf, timesRows, segmentsRows, timedRows, detailRows, objectRows, objectsRows, filled, headOf, tableOf}
 use Rattle.document.specs.Words.{allWords}
 use Rattle.document.specs.Untable.{Grown, part, detailNext, textOf, dateOf, mealOf, posologyOf}
 use Rattle.document.specs.declared.table.Date.{Date}
 use Rattle.document.specs.declared.table.Record.{Record}
-use Rattle.json.proofs.Truth.{and-left, and-right}
-use Rattle.document.proofs.Parts.{all-nine, unit-text}
+use Rattle.json.proofs.Truth.{and-left}
+use Rattle.document.proofs.Ranges.{in-range}
+use Rattle.document.proofs.Parts.{unit-text}
+use Rattle.document.proofs.ValidParts.{valid-parts, few-records}
 use Rattle.document.proofs.Untables.{joined-append, detail-append, part-back, detail-back}
 
 -- Records in front of others, and how many they are.
@@ -149,7 +151,7 @@ text-back buffer pre post (some cs) at e f v =
 meal-back : (m : Option ℕ) → ifGiven isMeal m ≡ true → mealOf (Option·getD m 0) ≡ m
 meal-back none v = refl
 meal-back (some m) v =
-    let h : 1 ≤ m = leb-true 1 m (and-left (leb 1 m) (leb m mealCodes) v) in
+    let h = in-range 1 m mealCodes v in
     ap (λ (b : Bool). cond b none (some m)) (ne-eqb m 0 (λ e. omega arith))
 
 pub date-back : (d : Option P.Date) → dateOf (dateCell d) ≡ d
@@ -186,11 +188,10 @@ po-back buffer post d e v h =
     ∙ ap (λ (g : Grown Detail). g .value) (detail-back buffer d (length (detailRows d 0 (replicate (recordsInTable - length (detailRows d 0 [])) noRecord))) sequencesInside 0 (replicate (recordsInTable - length (detailRows d 0 [])) noRecord) [] post e refl v (omega arith))
 
 pub untabled : (purpose : ℕ) (p : Posology) (behind : List ℕ) → valid purpose p ≡ true → posologyOf (tableOf p) (strings p ++ behind) ≡ p
-unfolding posologyOf tableOf headOf valid validFields
+unfolding posologyOf tableOf headOf
 untabled purpose p b v =
-    let w : validFields purpose p ≡ true = and-left (validFields purpose p) (leb (detailRecords (p .po)) recordsAtMost) v in
-    let most = leb-true (detailRecords (p .po)) recordsAtMost (and-right (validFields purpose p) (leb (detailRecords (p .po)) recordsAtMost) v) in
-    let n = all-nine (ifGiven isDate (p .dtFrom)) (ifGiven isDate (p .dtTo)) (validDetail (p .po) sequencesInside) (ifGiven isMeal (p .relMeal)) (isUnitFor purpose (p .unit)) (ifGiven isText (p .applInstr)) (ifGiven isText (p .roa)) (ifGiven isText (p .moa)) (inOrder (p .dtFrom) (p .dtTo)) w in
+    let most = few-records purpose p v in
+    let n = valid-parts purpose p v in
     let D = detailStrings (p .po) [] in
     let U = bytesOf (p .unit) in let I = bytesOf (p .applInstr) in let R = bytesOf (p .roa) in let M = bytesOf (p .moa) in
     let e₀ : strings p ++ b ≡ D ++ (U ++ (I ++ (R ++ (M ++ b)))) = strings-append p b in
@@ -202,9 +203,9 @@ untabled purpose p b v =
     let k₃ : length (((D ++ U) ++ I) ++ R) ≡ length D + lengthOf (p .unit) + lengthOf (p .applInstr) + lengthOf (p .roa) = length-append ((D ++ U) ++ I) R ∙ ap (λ (x : ℕ). x + length R) k₂ ∙ ap (λ (x : ℕ). length D + lengthOf (p .unit) + lengthOf (p .applInstr) + x) (length-of (p .roa)) in
     same-posology (posologyOf (tableOf p) (strings p ++ b)) p
     (date-back (p .dtFrom)) (date-back (p .dtTo)) refl
-    (po-back (strings p ++ b) (U ++ (I ++ (R ++ (M ++ b)))) (p .po) e₀ (n .2) most)
-    (meal-back (p .relMeal) (n .3))
-    (text-back (strings p ++ b) D (I ++ (R ++ (M ++ b))) (p .unit) (length D) e₀ refl (unit-text purpose (p .unit) (n .4)))
-    (text-back (strings p ++ b) (D ++ U) (R ++ (M ++ b)) (p .applInstr) (length D + lengthOf (p .unit)) e₁ k₁ (n .5))
-    (text-back (strings p ++ b) ((D ++ U) ++ I) (M ++ b) (p .roa) (length D + lengthOf (p .unit) + lengthOf (p .applInstr)) e₂ k₂ (n .6))
-    (text-back (strings p ++ b) (((D ++ U) ++ I) ++ R) b (p .moa) (length D + lengthOf (p .unit) + lengthOf (p .applInstr) + lengthOf (p .roa)) e₃ k₃ (n .7))
+    (po-back (strings p ++ b) (U ++ (I ++ (R ++ (M ++ b)))) (p .po) e₀ (n .detail) most)
+    (meal-back (p .relMeal) (n .meal))
+    (text-back (strings p ++ b) D (I ++ (R ++ (M ++ b))) (p .unit) (length D) e₀ refl (unit-text purpose (p .unit) (n .unit)))
+    (text-back (strings p ++ b) (D ++ U) (R ++ (M ++ b)) (p .applInstr) (length D + lengthOf (p .unit)) e₁ k₁ (n .instructions))
+    (text-back (strings p ++ b) ((D ++ U) ++ I) (M ++ b) (p .roa) (length D + lengthOf (p .unit) + lengthOf (p .applInstr)) e₂ k₂ (n .roa))
+    (text-back (strings p ++ b) (((D ++ U) ++ I) ++ R) b (p .moa) (length D + lengthOf (p .unit) + lengthOf (p .applInstr) + lengthOf (p .roa)) e₃ k₃ (n .moa))

@@ -2,29 +2,17 @@
 use Prim.Native.Nat.{ℕ, zero, suc, _≤_, _<_}
 use mathlib.Core.Path.{_≡_}
 use mathlib.Core.List.{List, [], _∷_}
-use mathlib.Core.Bool.{Bool, true, false, false≢true}
+use mathlib.Core.Bool.{true, false≢true}
 use mathlib.Core.Option.{Option, none}
 use native.Mathlib.Omega.{arith}
 use lib.ListN.{length}
-use Rattle.json.specs.Rows.{else, below}
 use Rattle.json.specs.Byte.{within}
 use Rattle.spelling.specs.Utf8.{Utf8}
 use Rattle.spelling.specs.Utf8 as U
 use Rattle.spelling.proofs.Tables.{each}
+use Rattle.spelling.proofs.Bytes.{within-is}
 use Rattle.document.specs.Utf8.{Within, from, tail, followRows, goOn, wellFormed, isUtf8}
 use Rattle.json.proofs.Truth.{and-left, and-right}
-
--- A byte between two bounds.
-abbrev Bound : ℕ → ℕ → ℕ → Bool → Type 0
-Bound lo hi b true = (lo ≤ b) × (b < hi)
-Bound lo hi b false = Unit {0}
-
-bound : (lo hi b : ℕ) → Bound lo hi b (within lo hi b)
-unfolding within
-bound lo hi b = each (Bound lo hi b) 0 b (below lo false (below hi true (else false))) (omega arith) (λ _ _. tt, (λ l h. (l, h), λ _. tt))
-
-within-is : (lo hi b : ℕ) → within lo hi b ≡ true → (lo ≤ b) × (b < hi)
-within-is lo hi b e = rw e at (bound lo hi b)
 
 -- One byte that must follow.
 module _ (P : List ℕ → Type 0) (n : ℕ) where

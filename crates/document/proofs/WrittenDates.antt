@@ -10,17 +10,14 @@ use borrow.Author.Tests.{leb-true, le-leb, eqb-true, ne-eqb}
 use Rattle.document.specs.Posology.{Day, Zone, east, west, Date, bare, moment}
 use Rattle.document.specs.Date.{among, leap, daysIn, isDay, isZone, isSecond, isDate, isDigit, pair, Behind, two, then, only, clock, seconds, timeOf, dayOf, minutesWest, zone, dateOf}
 use Rattle.document.specs.Plain as P
-use Rattle.json.proofs.Truth.{and-both, and-left, and-right}
+use Rattle.json.proofs.Truth.{and-both, and-left, and-right, cond-true}
+use Rattle.document.proofs.Ranges.{in-range}
 
 then-to : {A B : Type 0} (o : Option A) (a : A) (f : A → Option B) (z : Option B) → o ≡ some a → f a ≡ z → then o f ≡ z
 then-to {A} o a f z e g = ap (λ (q : Option A). then q f) e ∙ g
 
 only-to : {A : Type 0} (b : Bool) (a : A) → b ≡ true → only b a ≡ some a
 only-to {A} b a e = ap (λ (c : Bool). only c a) e
-
-cond-to : {A : Type 0} (b : Bool) (x y : A) → b ≡ true → cond b x y ≡ x
-cond-to true x y e = refl
-cond-to false x y e = absurd (false≢true e)
 
 abbrev read : ℕ → List ℕ → Behind ℕ
 read n k = record { value = n; rest = k }
@@ -31,7 +28,7 @@ a-digit d h = and-both (le-leb 48 (48 + d) (omega arith)) (le-leb (48 + d) 57 (o
 two-reads : (n : ℕ) (k : List ℕ) → n ≤ 99 → two (P.two n k) ≡ some (read n k)
 two-reads n k h =
     let e : (48 + n / 10 - 48) * 10 + (48 + n % 10 - 48) ≡ n = omega arith in
-    cond-to (isDigit (48 + n / 10) && isDigit (48 + n % 10)) (some (read (pair (48 + n / 10) (48 + n % 10)) k)) none (and-both (a-digit (n / 10) (omega arith)) (a-digit (n % 10) (omega arith)))
+    cond-true (isDigit (48 + n / 10) && isDigit (48 + n % 10)) (some (read (pair (48 + n / 10) (48 + n % 10)) k)) none (and-both (a-digit (n / 10) (omega arith)) (a-digit (n % 10) (omega arith)))
     ∙ ap (λ (v : ℕ). some (read v k)) e
 
 clock-reads : (m : ℕ) (k : List ℕ) → m < 1440 → clock (P.clock m k) ≡ some (read m k)
@@ -118,8 +115,7 @@ zone-reads (east n) v =
     let h : n ≤ 840 = leb-true n 840 v in
     then-to (clock (P.clock n [])) (read n []) _ _ (clock-reads n [] (omega arith)) (only-to (isZone (east n)) (east n) v)
 zone-reads (west n) v =
-    let h : n ≤ 840 = leb-true n 840 (and-right (leb 1 n) (leb n 840) v) in
-    let i : 1 ≤ n = leb-true 1 n (and-left (leb 1 n) (leb n 840) v) in
+    let h = in-range 1 n 840 v in
     let e : minutesWest n ≡ west n = some-minutes n (ne-eqb n 0 (λ f. omega arith)) in
     then-to (clock (P.clock n [])) (read n []) _ _ (clock-reads n [] (omega arith)) (subst (λ (z : Zone). only (isZone z) z ≡ some (west n)) (sym e) (only-to (isZone (west n)) (west n) v))
 

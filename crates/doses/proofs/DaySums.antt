@@ -1,24 +1,22 @@
 -- A number below a power of two is the set of some days.
-use mathlib.Core.Path.{_≡_, refl, ap, subst, _∙_}
+use mathlib.Core.Path.{_≡_, refl, ap, _∙_}
 use mathlib.Core.List.{List, [], _∷_}
-use mathlib.Core.Bool.{Bool, true, false, not, _&&_, false≢true}
+use mathlib.Core.Bool.{Bool, true, false, not, false≢true}
 use Prim.Native.Nat.{ℕ, zero, suc, _+_, _*_, _-_, _/_, _%_, _^_, _≤_, _<_}
 use native.Mathlib.Omega.{arith}
 use native.Mathlib.Nat.{pow-succ'}
-use lib.Dec.{eqb, leb, ltb}
-use borrow.Author.Tests.{leb-true, ltb-true, lt-ltb, le-leb, eqb-true, eqb-false}
+use lib.Dec.{eqb}
+use borrow.Author.Tests.{eqb-true, eqb-false}
 use Rattle.document.specs.Visit.{isEmpty}
 use Rattle.document.specs.Valid.{climbs, isDays}
 use Rattle.document.specs.Table.{daySet}
 use Rattle.json.proofs.Truth.{and-left, and-right, and-both}
-use Rattle.document.proofs.DaySets.{from, halves, from-one}
+use Rattle.document.proofs.Days.{climbs-parts, climbs-more}
+use Rattle.document.proofs.DaySets.{from, halves, from-one, days-small}
 
 lower : (least day hi : ℕ) (ds : List ℕ) → least ≤ day → climbs day hi ds ≡ true → climbs least hi ds ≡ true
 lower least day hi [] h c = refl
-lower least day hi (d ∷ ds) h c =
-    let g = and-left (ltb day d && leb d hi) (climbs d hi ds) c in
-    let up : day < d = ltb-true day d (and-left (ltb day d) (leb d hi) g) in
-    and-both (and-both (lt-ltb least d (omega arith)) (and-right (ltb day d) (leb d hi) g)) (and-right (ltb day d && leb d hi) (climbs d hi ds) c)
+lower least day hi (d ∷ ds) h c = let k = climbs-parts day hi d ds c in climbs-more least hi d ds (omega arith) (k .1) (k .2)
 
 record Some (day least hi set : ℕ) : Type 0 where
   value : List ℕ
@@ -40,7 +38,7 @@ one-day n day least hi set e f r = go (eqb (set % 2) 1) refl
         let z : 2 ^ (day - day) ≡ 1 = let y : day - day ≡ 0 = omega arith in ap (λ (x : ℕ). 2 ^ x) y in
         record {
           value = day ∷ r .value;
-          climbing = and-both (and-both (lt-ltb least day (omega arith)) (le-leb day hi (omega arith))) (r .climbing);
+          climbing = climbs-more least hi day (r .value) (omega arith) (omega arith) (r .climbing);
           sum = omega (arith, twice);
         }
     go false g =
@@ -71,41 +69,6 @@ days-are hi set g h =
     }
 
 -- And a set of days is such a number.
-sum-below : (n day least hi : ℕ) (ds : List ℕ) → day ≡ least + 1 → hi ≡ least + n → climbs least hi ds ≡ true → from day ds < 2 ^ n
-sum-below zero day least hi [] e f c = omega arith
-sum-below zero day least hi (d ∷ ds) e f c =
-    let g = and-left (ltb least d && leb d hi) (climbs d hi ds) c in
-    let up : least < d = ltb-true least d (and-left (ltb least d) (leb d hi) g) in
-    let most : d ≤ hi = leb-true d hi (and-right (ltb least d) (leb d hi) g) in
-    absurd (omega arith)
-sum-below (suc n) day least hi [] e f c = let p : 2 ^ suc n ≡ 2 * 2 ^ n = pow-succ' 2 n in let h = sum-below n (day + 1) day hi [] refl (omega arith) refl in omega arith
-sum-below (suc n) day least hi (d ∷ ds) e f c = go (eqb d day) refl (λ i. sum-below n (day + 1) day hi ds refl (omega arith) i) (λ i. sum-below n (day + 1) day hi (d ∷ ds) refl (omega arith) i)
-  where
-    v : (ltb least d && leb d hi) ≡ true
-    v = and-left (ltb least d && leb d hi) (climbs d hi ds) c
-
-    behind : climbs d hi ds ≡ true
-    behind = and-right (ltb least d && leb d hi) (climbs d hi ds) c
-
-    p : 2 ^ suc n ≡ 2 * 2 ^ n
-    p = pow-succ' 2 n
-
-    go : (b : Bool) → eqb d day ≡ b → (climbs day hi ds ≡ true → from (day + 1) ds < 2 ^ n) → (climbs day hi (d ∷ ds) ≡ true → from (day + 1) (d ∷ ds) < 2 ^ n) → from day (d ∷ ds) < 2 ^ suc n
-    go true i k₁ k₂ =
-        let s : d ≡ day = eqb-true d day i in
-        let z : 2 ^ (d - day) ≡ 1 = let y : d - day ≡ 0 = omega arith in ap (λ (x : ℕ). 2 ^ x) y in
-        let x : from day ds ≡ 2 * from (day + 1) ds = halves day d hi ds (omega arith) behind in
-        let h = k₁ (subst (λ (m : ℕ). climbs m hi ds ≡ true) s behind) in
-        omega (arith, p)
-    go false i k₁ k₂ =
-        let up : least < d = ltb-true least d (and-left (ltb least d) (leb d hi) v) in
-        let ne : d ≡ day → ⊥ = eqb-false d day i in
-        let lt : day < d = omega arith in
-        let again : climbs day hi (d ∷ ds) ≡ true = and-both (and-both (lt-ltb day d lt) (and-right (ltb least d) (leb d hi) v)) behind in
-        let o : from day (d ∷ ds) ≡ 2 * from (day + 1) (d ∷ ds) = halves day day hi (d ∷ ds) (omega arith) again in
-        let h = k₂ again in
-        omega (arith, p)
-
 power : (n : ℕ) → 1 ≤ 2 ^ n
 power zero = omega arith
 power (suc n) = let p : 2 ^ suc n ≡ 2 * 2 ^ n = pow-succ' 2 n in let h = power n in omega arith
@@ -118,5 +81,5 @@ pub days-sum : (hi : ℕ) (ds : List ℕ) → isDays hi ds ≡ true → (1 ≤ d
 days-sum hi ds v =
     let e = from-one ds in
     let a = some-sum ds (and-left (not (isEmpty ds)) (climbs 0 hi ds) v) in
-    let b = sum-below hi 1 0 hi ds refl (omega arith) (and-right (not (isEmpty ds)) (climbs 0 hi ds) v) in
+    let b = days-small 0 hi ds (omega arith) (and-right (not (isEmpty ds)) (climbs 0 hi ds) v) in
     (omega arith, omega arith)

@@ -17,6 +17,7 @@ use Rattle.document.specs.Words.{recordWords, allWords}
 use Rattle.document.specs.declared.table.Record.{Record}
 use Rattle.words.specs.Standing.{belowAt, At, Lies}
 use Rattle.json.proofs.Truth.{and-left, and-right}
+use Rattle.document.proofs.Ranges.{in-range}
 use Rattle.doses.proofs.DaySums.{days-sum}
 use Rattle.doses.proofs.Lies.{moved, typesUnder}
 use Rattle.doses.specs.Doses.{DosageAt, simple, fromTo, range, ApplicationsAt, none, more, PlainAt, dosageOnly, times, segments, TimedAt, plain, interval, weekDays, daysOfMonth}
@@ -39,10 +40,8 @@ module _ {ws : List ℕ} where
       let v₂ = and-left (ltb a b && isAmount b) (isTimeUnit u) v₁ in
       let g : a < b = ltb-true a b (and-left (ltb a b) (isAmount b) v₂) in
       let h : b ≤ 999999999999 = leb-true b 999999999999 (and-right (ltb a b) (isAmount b) v₂) in
-      let u₀ : 1 ≤ u = leb-true 1 u (and-left (leb 1 u) (leb u 7) (and-right (ltb a b && isAmount b) (isTimeUnit u) v₁)) in
-      let u₁ : u ≤ 7 = leb-true u 7 (and-right (leb 1 u) (leb u 7) (and-right (ltb a b && isAmount b) (isTimeUnit u) v₁)) in
-      let n₀ : 1 ≤ n = leb-true 1 n (and-left (leb 1 n) (leb n 99999) (and-right (ltb a b && isAmount b && isTimeUnit u) (isDuration n) v)) in
-      let n₁ : n ≤ 99999 = leb-true n 99999 (and-right (leb 1 n) (leb n 99999) (and-right (ltb a b && isAmount b && isTimeUnit u) (isDuration n) v)) in
+      let u-in = in-range 1 u 7 (and-right (ltb a b && isAmount b) (isTimeUnit u) v₁) in
+      let n-in = in-range 1 n 99999 (and-right (ltb a b && isAmount b && isTimeUnit u) (isDuration n) v) in
       fromTo (record { row = record { inside = p .inside; tag = p .tag; below-least = omega arith; below-most = omega arith; a-least = omega arith; a-most = omega arith; b-least = omega arith; b-most = omega arith; c-least = omega arith; c-most = omega arith; d-least = omega arith; d-most = omega arith }; rises = omega arith })
   dosage-found (P.range a b) v p =
       let v₁ = and-left (ltb 0 a && ltb a b) (isAmount b) v in
@@ -66,8 +65,7 @@ module _ {ws : List ℕ} where
   segments-found {i} end (P.inSegment d t ∷ ts) k v e l =
       let v₁ = and-left (validDosage d && (leb 1 t && leb t 4)) (every validInSegment ts) v in
       let v₂ = and-right (validDosage d) (leb 1 t && leb t 4) v₁ in
-      let g : 1 ≤ t = leb-true 1 t (and-left (leb 1 t) (leb t 4) v₂) in
-      let h : t ≤ 4 = leb-true t 4 (and-right (leb 1 t) (leb t 4) v₂) in
+      let t-in = in-range 1 t 4 v₂ in
       let p = l .0 in
       let n : i + 1 + 1 ≡ i + 2 = omega arith in
       let r = segments-found {i = i + 2} end ts k (and-right (validDosage d && (leb 1 t && leb t 4)) (every validInSegment ts) v) (omega arith) (moved ws (allWords (segmentsRows ts k)) n (l .1 .1)) in
@@ -124,10 +122,8 @@ module _ {ws : List ℕ} where
   timed-found {i} (P.interval d n u) ts parent k h v f l =
       let v₁ = and-left (among 6 ts && validDosage d && isDuration n) (isTimeUnit u) v in
       let v₂ = and-left (among 6 ts && validDosage d) (isDuration n) v₁ in
-      let u₀ : 1 ≤ u = leb-true 1 u (and-left (leb 1 u) (leb u 7) (and-right (among 6 ts && validDosage d && isDuration n) (isTimeUnit u) v)) in
-      let u₁ : u ≤ 7 = leb-true u 7 (and-right (leb 1 u) (leb u 7) (and-right (among 6 ts && validDosage d && isDuration n) (isTimeUnit u) v)) in
-      let n₀ : 1 ≤ n = leb-true 1 n (and-left (leb 1 n) (leb n 99999) (and-right (among 6 ts && validDosage d) (isDuration n) v₁)) in
-      let n₁ : n ≤ 99999 = leb-true n 99999 (and-right (leb 1 n) (leb n 99999) (and-right (among 6 ts && validDosage d) (isDuration n) v₁)) in
+      let u-in = in-range 1 u 7 (and-right (among 6 ts && validDosage d && isDuration n) (isTimeUnit u) v) in
+      let n-in = in-range 1 n 99999 (and-right (among 6 ts && validDosage d) (isDuration n) v₁) in
       let p = l .0 in
       let m : i + 1 + 1 ≡ i + 2 = omega arith in
       (interval (h .interval (and-left (among 6 ts) (validDosage d) v₂)) (record { row = record { inside = p .inside; tag = p .tag; below-least = omega arith; below-most = omega arith; a-least = omega arith; a-most = omega arith; b-least = omega arith; b-most = omega arith; c-least = omega arith; c-most = omega arith; d-least = omega arith; d-most = omega arith }; dosage = dosage-found d (and-right (among 6 ts) (validDosage d) v₂) (l .1 .0) }), (omega arith, moved ws (allWords k) m (l .1 .1)))

@@ -32,7 +32,8 @@ use Rattle.fields.specs.declared.field.Field.{Field}
 use Rattle.fields.specs.declared.field.Field.the-variants as F
 use Rattle.fields.specs.declared.field.DateField.{DateField}
 use Rattle.fields.specs.declared.field.DateField.the-variants as D
-use Rattle.fields.proofs.Values.{said, empty-of-length, some-of-length}
+use Rattle.document.proofs.Strings.{empty-of-length, some-of-length}
+use Rattle.fields.proofs.Values.{said}
 use Rattle.fields.proofs.DateLengths.{long-date, long-time}
 
 -- Bytes that were laid, or had no room.

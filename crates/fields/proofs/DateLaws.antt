@@ -7,9 +7,10 @@ use mathlib.Core.Option.{Option, none, some}
 use lib.ListN.{length, drop, getD, length-drop, drop-of-length-le}
 use lib.Seq.{drop-drop}
 use lib.Dec.{eqb, leb}
-use borrow.Author.Tests.{leb-true, le-leb, lt-leb, eq-eqb, ne-eqb, not-true, not-false}
+use borrow.Author.Tests.{le-leb, lt-leb, eq-eqb, ne-eqb, not-true, not-false}
 use native.Mathlib.Omega.{arith}
 use Rattle.json.proofs.Moves.{byte-here}
+use Rattle.document.proofs.Ranges.{in-range}
 use Rattle.document.specs.Posology as P
 use Rattle.document.specs.Date.{dayAt, isDay, isDigit, pair, two, then, mark, only, clock, seconds, atMinute, alone, timeOf, dayOf, momentOf, bareOr, dateOf, zone, minutesWest, isZone, Behind}
 use Rattle.fields.specs.Dates.{IsDate}
@@ -40,18 +41,10 @@ mark-at m at next bytes f n e = mark-yes m (drop at bytes) f e ∙ ap f (drop-dr
 
 -- Two digits.
 pub digit-least : (b : ℕ) (r : Bool) → r ≡ isDigit b → not r ≡ false → 48 ≤ b
-digit-least b r k e = leb-true 48 b (go (leb 48 b) (sym k ∙ not-false r e))
-  where
-    go : (t : Bool) → (t && leb b 57) ≡ true → t ≡ true
-    go true h = refl
-    go false h = h
+digit-least b r k e = in-range 48 b 57 (sym k ∙ not-false r e) .0
 
 pub digit-most : (b : ℕ) (r : Bool) → r ≡ isDigit b → not r ≡ false → b ≤ 57
-digit-most b r k e = leb-true b 57 (go (leb 48 b) (sym k ∙ not-false r e))
-  where
-    go : (t : Bool) → (t && leb b 57) ≡ true → leb b 57 ≡ true
-    go true h = h
-    go false h = absurd (false≢true h)
+digit-most b r k e = in-range 48 b 57 (sym k ∙ not-false r e) .1
 
 pub marked-here : (m : ℕ) (s : List ℕ) (i : ℕ) → i < length s → eqb (getD s i 0) m ≡ marked m (drop i s)
 marked-here m s i h = rw (byte-here s i h)
@@ -246,7 +239,7 @@ module _ (bytes : List ℕ) (at m : ℕ) where
 pub alone-end : {A : Type 0} (bytes : List ℕ) (i : ℕ) (a : A) → length bytes ≡ i → alone (drop i bytes) a ≡ some a
 alone-end bytes i a e = rw (drop-of-length-le bytes {i = i} (omega arith))
 
-more-behind : {A : Type 0} (s : List ℕ) (a : A) → 0 < length s → alone s a ≡ none
+pub more-behind : {A : Type 0} (s : List ℕ) (a : A) → 0 < length s → alone s a ≡ none
 more-behind [] a h = absurd (omega arith)
 more-behind (b ∷ s) a h = refl
 

@@ -10,6 +10,7 @@ use native.Mathlib.Omega.{arith}
 use Rattle.json.specs.Rows.{choose}
 use Rattle.document.specs.Posology as P
 use Rattle.document.specs.Date.{isDay, isDigit, pair, two, then, mark, only, clock, seconds, atMinute, alone, timeOf, dayOf, momentOf, bareOr, dateOf, zone, signed, isZone, Behind}
+use Rattle.fields.proofs.DateLaws.{more-behind}
 
 -- What was read took so many bytes.
 abbrev By : {A : Type 0} → ℕ → List ℕ → Option (Behind A) → Type 0
@@ -69,10 +70,6 @@ day-by s =
     only-by (isDay (record { year = c .value * 100 + y .value; month = m .value; day = d .value })) (d .rest) (record { year = c .value * 100 + y .value; month = m .value; day = d .value })
 
 -- So what is left is too long, and at the end nothing may be left.
-alone-long : {A : Type 0} (s : List ℕ) (a : A) → 0 < length s → alone s a ≡ none
-alone-long [] a h = absurd (omega arith)
-alone-long (b ∷ s) a h = refl
-
 behind-long : {A B : Type 0} (k n : ℕ) (s : List ℕ) (o : Option (Behind A)) (f : Behind A → Option B) → By k s o → k + n < length s → ((r : Behind A) → n < length (r .rest) → f r ≡ none) → then o f ≡ none
 behind-long k n s none f h l g = refl
 behind-long k n s (some r) f h l g = g r (omega arith)
@@ -87,7 +84,7 @@ mark-long {A} m n (b ∷ s) f h g = go (eqb b m)
 
 minute-long : (m : Behind ℕ) (s : List ℕ) → m .rest ≡ s → 20 < length s → atMinute m s ≡ none
 minute-long m [] e h = absurd (omega arith)
-minute-long m (b ∷ s) e h = behind-long 3 17 (m .rest) (seconds m) (λ n. alone (n .rest) (n .value)) (seconds-by m) (rw e h) λ n l. alone-long (n .rest) (n .value) (omega arith)
+minute-long m (b ∷ s) e h = behind-long 3 17 (m .rest) (seconds m) (λ n. alone (n .rest) (n .value)) (seconds-by m) (rw e h) λ n l. more-behind (n .rest) (n .value) (omega arith)
 
 pub long-time : (s : List ℕ) → 25 < length s → timeOf s ≡ none
 unfolding timeOf
@@ -97,7 +94,7 @@ zone-long : (s : List ℕ) → 6 < length s → zone s ≡ none
 zone-long [] h = refl
 zone-long (b ∷ s) h =
     behind-long 5 0 s (clock s) (λ m. then (alone (m .rest) (m .value)) λ n. then (signed b n) λ z. only (isZone z) z) (clock-by s) (omega arith) λ m l.
-    ap (λ o. then o λ n. then (signed b n) λ z. only (isZone z) z) (alone-long (m .rest) (m .value) l)
+    ap (λ o. then o λ n. then (signed b n) λ z. only (isZone z) z) (more-behind (m .rest) (m .value) l)
 
 moment-long : (d : P.Day) (s : List ℕ) → 15 < length s → momentOf d s ≡ none
 moment-long d s h =

@@ -2,11 +2,11 @@
 use Prim.Native.Nat.{ℕ, zero, suc, _+_, _*_, _-_, _^_, _<_, _≤_}
 use mathlib.Core.Path.{_≡_, refl, sym, ap, _∙_}
 use mathlib.Core.List.{List, [], _∷_, _++_}
-use mathlib.Core.Bool.{Bool, true, false, cond, not, _&&_, _||_, false≢true}
+use mathlib.Core.Bool.{Bool, true, false, cond, not, _&&_, _||_, or-true, or-false, or-assoc}
 use lib.ListN.{length, getD, set, replicate}
 use lib.Seq.{getD-set-same, getD-set-other}
 use lib.Dec.{eqb, leb}
-use borrow.Author.Tests.{ne-eqb, eqb-true, eqb-false}
+use borrow.Author.Tests.{ne-eqb, eqb-true, eqb-false, not-true}
 use native.Mathlib.Nat.{pow-suc, pow-le-pow-right}
 use native.Mathlib.Numerals.{add-one}
 use native.Mathlib.Omega.{arith}
@@ -82,14 +82,10 @@ unfolding listBits
 no-bits zero = refl
 no-bits (suc n) = rw (no-bits n)
 
-not-is : (a : Bool) → not a ≡ true → a ≡ false
-not-is true e = absurd (false≢true e)
-not-is false e = refl
-
 distinct-bits : (ds : List ℕ) → Between ds → distinct ds ≡ true → listBits 28 ds ≡ daySet ds
 distinct-bits [] b e = no-bits 28
 distinct-bits (d ∷ ds) (x, y, b) e =
-    day-in 28 d ds x y (not-is (among d ds) (and-left (not (among d ds)) (distinct ds) e))
+    day-in 28 d ds x y (not-true (among d ds) (and-left (not (among d ds)) (distinct ds) e))
     ∙ ap (λ n. 2 ^ (d - 1) + n) (distinct-bits ds b (and-right (not (among d ds)) (distinct ds) e))
 
 pub marked-set : (marks : List Bool) (ds : List ℕ) → Between ds → ((d : ℕ) → d < 29 → getD marks d false ≡ among d ds) → distinct ds ≡ true → daySet (ascending ds) ≡ bits 28 marks
@@ -101,16 +97,8 @@ between-more [] d b x y = (x, y, tt)
 between-more (c ∷ ds) d (p, q, b) x y = (p, q, between-more ds d b x y)
 
 among-more : (k : ℕ) (ds : List ℕ) (d : ℕ) → among k (ds ++ (d ∷ [])) ≡ (among k ds || eqb k d)
-among-more k [] d = go (eqb k d)
-  where
-    go : (t : Bool) → (t || false) ≡ t
-    go true = refl
-    go false = refl
-among-more k (c ∷ ds) d = rw (among-more k ds d) (go (eqb k c))
-  where
-    go : (t : Bool) → (t || (among k ds || eqb k d)) ≡ ((t || among k ds) || eqb k d)
-    go true = refl
-    go false = refl
+among-more k [] d = or-false (eqb k d)
+among-more k (c ∷ ds) d = rw (among-more k ds d) (sym (or-assoc (eqb k c) (among k ds) (eqb k d)))
 
 pub distinct-more : (ds : List ℕ) (d : ℕ) → not (distinct (ds ++ (d ∷ []))) ≡ (not (distinct ds) || among d ds)
 distinct-more [] d = refl
@@ -118,27 +106,15 @@ distinct-more (c ∷ ds) d = rw (among-more c ds d, eqb-sym c d) (go (among c ds
   where
     go : (a b p q r : Bool) → not p ≡ (not q || r) → not (not (a || b) && p) ≡ (not (not a && q) || (b || r))
     go true b p q r e = refl
-    go false true p q r e = or-true (not q)
-      where
-        or-true : (x : Bool) → true ≡ (x || true)
-        or-true true = refl
-        or-true false = refl
+    go false true p q r e = sym (or-true (not q))
     go false false p q r e = e
 
 pub marks-more : (marks : List Bool) (ds : List ℕ) (d : ℕ) → length marks ≡ 29 → d < 29 → ((k : ℕ) → k < 29 → getD marks k false ≡ among k ds) → (k : ℕ) → k < 29 → getD (set marks d true) k false ≡ among k (ds ++ (d ∷ []))
 marks-more marks ds d h b f k j = go (eqb k d) refl ∙ sym (among-more k ds d)
   where
-    or-true : (x : Bool) → true ≡ (x || true)
-    or-true true = refl
-    or-true false = refl
-
-    or-false : (x : Bool) → x ≡ (x || false)
-    or-false true = refl
-    or-false false = refl
-
     go : (t : Bool) → eqb k d ≡ t → getD (set marks d true) k false ≡ (among k ds || eqb k d)
-    go true e = rw (e, eqb-true k d e, getD-set-same marks d true false (omega arith)) (or-true (among d ds))
-    go false e = rw (e, getD-set-other marks d k true false (eqb-false k d e)) (f k j ∙ or-false (among k ds))
+    go true e = rw (e, eqb-true k d e, getD-set-same marks d true false (omega arith)) (sym (or-true (among d ds)))
+    go false e = rw (e, getD-set-other marks d k true false (eqb-false k d e)) (f k j ∙ sym (or-false (among k ds)))
 
 -- The marks gathered up to a day.
 pub record Gathered (marks : List Bool) (sum power k : ℕ) : Type 0 where

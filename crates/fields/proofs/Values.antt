@@ -1,7 +1,7 @@
 -- What reading a value gives, by the kind that the code found at its place.
 use Prim.Native.Nat.{ℕ, _<_, _≤_}
 use mathlib.Core.Path.{_≡_, refl, sym, ap, _∙_}
-use mathlib.Core.List.{List, [], _∷_}
+use mathlib.Core.List.{List, _∷_}
 use mathlib.Core.Bool.{Bool, true, false, cond, not, false≢true, true≢false}
 use mathlib.Core.Option.{Option, none, some, Option·getD}
 use lib.ListN.{length, drop}
@@ -25,6 +25,7 @@ use Rattle.document.specs.Schema as S
 use Rattle.document.specs.Schema.{Shape, NumberShape, integer, decimal, StringShape, ListShape, Family, OfFamily}
 use Rattle.document.specs.Visit.{Value as Waiting, Left, Outcome, done, refuse, guard, present, valueOf, needed, optional, whole, millionths, chars, emptyFor, isEmpty}
 use Rattle.document.specs.At.{At, Slot, empty, filled}
+use Rattle.document.proofs.Strings.{empty-of-length, some-of-length}
 use Rattle.fields.specs.Fields.{Refuses, Reads, ReadsAt, ReadsNeeded, ReadsGiven, ReadsOptional, ReadsFlag, flagNumber, Child, FindsObject, ObjectAt, ObjectNeeded, Listing, ListNeeded, ReadsText, Perhaps, ReadsOptionalText}
 use Rattle.fields.specs.Reading.{wholeAt, millionthsAt, roomed, isObject, isArray, isText, isNumber, isNull, flagAt}
 use Rattle.fields.specs.declared.field.Field.{Field}
@@ -291,14 +292,6 @@ flag-reads text v k z e f empty p l = absurd (z refl)
 flag-reads text v k z e f (filled {t = t} n a) p l = rw (← e, kind-at text v a) (flag-tree text v t l a)
 
 -- Strings.
-pub empty-of-length : (cs : List ℕ) → length cs ≡ 0 → isEmpty cs ≡ true
-empty-of-length [] e = refl
-empty-of-length (c ∷ cs) e = absurd (omega arith)
-
-pub some-of-length : (cs : List ℕ) → (length cs ≡ 0 → ⊥) → isEmpty cs ≡ false
-some-of-length [] e = absurd (e refl)
-some-of-length (c ∷ cs) e = refl
-
 pub record Said (text : List ℕ) (v : ℕ) (k : StringShape) (f : Found Waiting) : Type 0 where
   pub inside : v < length text
   pub reads : (p : Place) (l : Left) → needed (S.aString k) p f l ≡ guard (not (isEmpty (decoded (drop v text)))) 7 p (chars k (drop v text) (decoded (drop v text)) l)

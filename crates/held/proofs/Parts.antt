@@ -1,8 +1,9 @@
 -- The numbers of a table that fits its types, part by part, and back.
-use Prim.Native.Nat.{ℕ, _+_, _%_}
+use Prim.Native.Nat.{ℕ, _+_}
 use mathlib.Core.Path.{_≡_, refl, sym, ap, _∙_}
 use mathlib.Core.List.{List, [], _∷_}
 use mathlib.Core.Bool.{Bool, true, false}
+use native.Mathlib.Nat.{mod-eq-of-lt}
 use native.Mathlib.Omega.{arith}
 use lib.Dec.{eqb}
 use lib.ListN.{length, drop, getD}
@@ -20,16 +21,7 @@ use Rattle.kinds.specs.Kinds.{kindOf, recordIn, groups}
 use Rattle.area.specs.Area.{dateOf, dateIn, headIn, tableOfNumbers}
 use Rattle.words.proofs.Rowed.{rows-length}
 use Rattle.area.proofs.Laid.{date-length}
-use Rattle.held.specs.Fits.{U8, U16, U32, U64, TextFits, DateFits, KindFits, AllFit, Fitting}
-
-cut8 : (x : ℕ) → U8 x → x % 256 ≡ x
-cut8 x h = omega arith
-
-cut16 : (x : ℕ) → U16 x → x % 65536 ≡ x
-cut16 x h = omega arith
-
-cut32 : (x : ℕ) → U32 x → x % 0x100000000 ≡ x
-cut32 x h = omega arith
+use Rattle.held.specs.Fits.{U64, TextFits, DateFits, KindFits, AllFit, Fitting}
 
 abbrev made : Kind → ℕ → Record
 made k n = record { kind = k; below = n }
@@ -41,21 +33,21 @@ module _ (n : ℕ) (rest : List ℕ) where
   kind-back (K.Daily a b c d) h = refl
   kind-back (K.FreeText t) h = refl
   kind-back K.Single h = refl
-  kind-back (K.Cyclic a b c) h = rw (cut8 a (h .0), cut32 b (h .1), cut32 c (h .2))
+  kind-back (K.Cyclic a b c) h = rw (mod-eq-of-lt (h .0), mod-eq-of-lt (h .1), mod-eq-of-lt (h .2))
   kind-back K.Sequence h = refl
   kind-back K.DosageOnly h = refl
   kind-back K.Times h = refl
   kind-back K.DaySegments h = refl
-  kind-back (K.WeekDays a) h = rw (cut32 a h)
-  kind-back (K.DaysOfMonth a) h = rw (cut32 a h)
-  kind-back (K.Interval a b) h = rw (cut32 a (h .0), cut8 b (h .1))
+  kind-back (K.WeekDays a) h = rw (mod-eq-of-lt h)
+  kind-back (K.DaysOfMonth a) h = rw (mod-eq-of-lt h)
+  kind-back (K.Interval a b) h = rw (mod-eq-of-lt (h .0), mod-eq-of-lt (h .1))
   kind-back (K.Dosage (S.Simple a)) h = refl
-  kind-back (K.Dosage (S.FromTo a b c d)) h = rw (cut8 c (h .2), cut32 d (h .3))
+  kind-back (K.Dosage (S.FromTo a b c d)) h = rw (mod-eq-of-lt (h .2), mod-eq-of-lt (h .3))
   kind-back (K.Dosage (S.Range a b)) h = refl
-  kind-back (K.PosologySequence a b) h = rw (cut32 a (h .0), cut8 b (h .1))
-  kind-back (K.Pause a b) h = rw (cut32 a (h .0), cut8 b (h .1))
-  kind-back (K.AtTime a) h = rw (cut32 a h)
-  kind-back (K.InSegment a) h = rw (cut8 a h)
+  kind-back (K.PosologySequence a b) h = rw (mod-eq-of-lt (h .0), mod-eq-of-lt (h .1))
+  kind-back (K.Pause a b) h = rw (mod-eq-of-lt (h .0), mod-eq-of-lt (h .1))
+  kind-back (K.AtTime a) h = rw (mod-eq-of-lt h)
+  kind-back (K.InSegment a) h = rw (mod-eq-of-lt h)
 
 records-back : (rs : List Record) → AllFit rs → groups 6 recordIn (length rs) (rows (allWords rs)) ≡ rs
 unfolding groups
@@ -67,9 +59,9 @@ records-back (r ∷ rs) h =
 date-back : (d : Date) (k : List ℕ) → DateFits d → dateIn (dateWords d k) ≡ d
 unfolding dateIn dateOf
 date-back D.Absent k h = refl
-date-back (D.Bare y m d) k h = rw (cut16 y (h .year), cut8 m (h .month), cut8 d (h .day))
-date-back (D.Moment y m d s true z) k h = rw (cut16 y (h .0 .year), cut8 m (h .0 .month), cut8 d (h .0 .day), cut32 s (h .1), cut16 z (h .2))
-date-back (D.Moment y m d s false z) k h = rw (cut16 y (h .0 .year), cut8 m (h .0 .month), cut8 d (h .0 .day), cut32 s (h .1), cut16 z (h .2))
+date-back (D.Bare y m d) k h = rw (mod-eq-of-lt (h .year), mod-eq-of-lt (h .month), mod-eq-of-lt (h .day))
+date-back (D.Moment y m d s true z) k h = rw (mod-eq-of-lt (h .0 .year), mod-eq-of-lt (h .0 .month), mod-eq-of-lt (h .0 .day), mod-eq-of-lt (h .1), mod-eq-of-lt (h .2))
+date-back (D.Moment y m d s false z) k h = rw (mod-eq-of-lt (h .0 .year), mod-eq-of-lt (h .0 .month), mod-eq-of-lt (h .0 .day), mod-eq-of-lt (h .1), mod-eq-of-lt (h .2))
 
 date-behind : (d : Date) (k : List ℕ) → drop 7 (dateWords d k) ≡ k
 date-behind D.Absent k = refl
@@ -104,7 +96,7 @@ numbers-one t f =
     let records : groups 6 recordIn 64 (drop 26 (tableWords t)) ≡ t .records =
     ap (groups 6 recordIn 64) all ∙ ap (λ (n : ℕ). groups 6 recordIn n (rows (allWords (t .records)))) (sym (f .all)) ∙ records-back (t .records) (f .records) in
     let to : dateIn (drop 7 (tableWords t)) ≡ h .to = ap dateIn (date-behind (h .from) (dateWords (h .to) texts)) ∙ date-back (h .to) texts (g .to) in
-    rw (date-back (h .from) (dateWords (h .to) texts) (g .from), at 0, at 1, at 2, at 3, at 4, at 5, at 6, at 7, at 8, at 9, at 10, at 11, records, to, flag-back (h .reserve), cut8 (h .meal) (g .meal))
+    rw (date-back (h .from) (dateWords (h .to) texts) (g .from), at 0, at 1, at 2, at 3, at 4, at 5, at 6, at 7, at 8, at 9, at 10, at 11, records, to, flag-back (h .reserve), mod-eq-of-lt (g .meal))
 
 -- Each number fits eight bytes.
 abbrev pub AllBelow : List ℕ → Type 0

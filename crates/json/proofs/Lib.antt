@@ -4,3 +4,4 @@ pub mod Places
 pub mod Passes
 pub mod Moves
 pub mod Truth
+pub mod Stores

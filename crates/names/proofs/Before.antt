@@ -2,9 +2,10 @@
 use Prim.Native.Nat.{ℕ, zero, suc, _-_, _<_, _≤_}
 use mathlib.Core.Path.{_≡_, refl, sym, ap, _∙_}
 use mathlib.Core.List.{List}
-use mathlib.Core.Bool.{Bool, true, false, _||_}
+use mathlib.Core.Bool.{true, false, _||_}
 use native.Mathlib.Omega.{arith}
 use Rattle.json.specs.Tree.{Place}
+use Rattle.json.proofs.Truth.{or-left-comm}
 use Rattle.moving.specs.Moving.{nextAfter, valueOf}
 use Rattle.moving.specs.Read.{decoded}
 use Rattle.document.specs.Lookup.{same, has}
@@ -35,15 +36,9 @@ pub behind-more : (m : ℕ) (s : Place) → behind (suc m) s ≡ nextAfter (valu
 behind-more zero s = refl
 behind-more (suc m) s = behind-more m (nextAfter (valueOf s))
 
-either : (a b c : Bool) → a || (b || c) ≡ b || (a || c)
-either true true c = refl
-either true false c = refl
-either false true c = refl
-either false false c = refl
-
 pub names-more : (n : List ℕ) (m : ℕ) (s : Place) → has n (namesFrom (suc m) s) ≡ same n (decoded (behind m s)) || has n (namesFrom m s)
 unfolding namesFrom
 names-more n zero s = refl
 names-more n (suc m) s =
     let t = nextAfter (valueOf s) in
-    ap (λ x. same n (decoded s) || x) (names-more n m t) ∙ either (same n (decoded s)) (same n (decoded (behind m t))) (has n (namesFrom m t))
+    ap (λ x. same n (decoded s) || x) (names-more n m t) ∙ or-left-comm (same n (decoded s)) (same n (decoded (behind m t))) (has n (namesFrom m t))

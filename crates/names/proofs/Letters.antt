@@ -2,16 +2,14 @@
 use Prim.Native.Nat.{ℕ, _+_, _<_}
 use mathlib.Core.Path.{_≡_, refl, sym, ap, subst, _∙_}
 use mathlib.Core.List.{List, [], _∷_, _++_, append-assoc, append-nil}
-use mathlib.Core.Bool.{Bool, true, false, not, cond, false≢true}
+use mathlib.Core.Bool.{false, not}
 use lib.ListN.{length, getD, length-append}
-use lib.Dec.{ltb}
 use native.Mathlib.Omega.{arith}
 use borrow.Author.Tests.{not-false}
 use Rattle.json.specs.Rows.{look}
 use Rattle.json.specs.String.{isAscii, lead, after}
-use Rattle.json.specs.declared.string.Lead.{Lead}
-use Rattle.json.specs.declared.string.Lead.the-variants.{Ascii}
 use Rattle.json.specs.declared.string.InString.the-variants.{Plain}
+use Rattle.scan.proofs.Strings.{ascii-lead}
 use Rattle.characters.specs.Characters.{plainFrom, ahead, Sound}
 use Rattle.characters.specs.declared.Cursor.{Cursor}
 use Rattle.characters.proofs.Ahead.{rest-closes}
@@ -53,20 +51,6 @@ pub record Decodes (text bytes : List ℕ) (p : Packed) (n : ℕ) (c : Cursor) :
   pub letters : Letters bytes p n (ahead text c)
 
 -- ---- plain ASCII letters
-rows : (a b c d e f : Bool) (o p q r x : Lead) → cond a false (cond b true (cond c false (cond d true (cond e false (cond f true false))))) ≡ true
-    → cond a o (cond b x (cond c p (cond d x (cond e q (cond f x r))))) ≡ x
-rows true b c d e f o p q r x h = absurd (false≢true h)
-rows false true c d e f o p q r x h = refl
-rows false false true d e f o p q r x h = absurd (false≢true h)
-rows false false false true e f o p q r x h = refl
-rows false false false false true f o p q r x h = absurd (false≢true h)
-rows false false false false false true o p q r x h = refl
-rows false false false false false false o p q r x h = absurd (false≢true h)
-
-ascii-lead : (b : ℕ) → isAscii b ≡ true → lead b ≡ Ascii
-unfolding isAscii lead look
-ascii-lead b e = rows (ltb b 32) (ltb b 34) (ltb b 35) (ltb b 92) (ltb b 93) (ltb b 128) _ _ _ _ Ascii e
-
 module _ (text : List ℕ) (i : ℕ) (h : i < length text) where
   pub plain-on : not (isAscii (getD text i 0)) ≡ false → plainFrom text i ≡ getD text i 0 ∷ plainFrom text (i + 1)
   plain-on e = ascii-from text i h (ascii-lead _ (not-false _ e))

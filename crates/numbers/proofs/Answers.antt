@@ -2,7 +2,7 @@
 use Prim.Native.Nat.{ℕ, _+_, _<_, _≤_}
 use mathlib.Core.Path.{_≡_, refl, sym, _∙_}
 use mathlib.Core.List.{List}
-use mathlib.Core.Bool.{Bool, true, false, _&&_, not, and-false}
+use mathlib.Core.Bool.{Bool, true, false, not, and-false}
 use lib.ListN.{length, take, drop}
 use lib.Seq.{length-take-le}
 use lib.Dec.{leb}
@@ -14,6 +14,7 @@ use Rattle.numbers.specs.declared.Decimal.{Decimal}
 use Rattle.numbers.specs.declared.Decimal.the-variants.{NotCarried as NotCarriedD, Outside as OutsideD}
 use Rattle.numbers.specs.Number.{negative, exponent, carried, counted, padded, up, rounded, allZero, behindPoint, among, integerIn, millionths, amount, decimalFrom}
 use Rattle.numbers.specs.Point.{Parts}
+use Rattle.json.proofs.Truth.{and-left}
 use Rattle.numbers.proofs.Digits.{padded-least}
 
 -- "at most 18 characters"
@@ -28,11 +29,7 @@ module _ (raw : List ℕ) where
 
   carried-length : carried raw ≡ true → length raw ≤ 18
   unfolding carried
-  carried-length e = leb-true (length raw) 18 (go (leb (length raw) 18) e)
-    where
-      go : (t : Bool) → (t && not (exponent raw)) ≡ true → t ≡ true
-      go true h = refl
-      go false h = h
+  carried-length e = leb-true (length raw) 18 (and-left (leb (length raw) 18) (not (exponent raw)) e)
 
 -- What stands before the point.
 module _ (raw : List ℕ) (point : ℕ) (p : Parts raw point) where

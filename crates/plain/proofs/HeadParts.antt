@@ -4,13 +4,13 @@ use mathlib.Core.List.{List, _∷_, _++_}
 use mathlib.Core.Bool.{Bool, true, false, cond, _&&_}
 use Prim.Native.Nat.{ℕ, _/_, _%_, _≤_}
 use native.Mathlib.Omega.{arith}
-use lib.Dec.{leb}
 use borrow.Author.Tests.{leb-true}
 use Rattle.document.specs.Posology.{Day, moment}
 use Rattle.document.specs.Date.{isDay, isZone, isSecond, isDate}
 use Rattle.document.specs.Untable.{zoneOf}
 use Rattle.document.specs.Plain.{two, clock, timeText, dayText, zoneText}
 use Rattle.json.proofs.Truth.{and-left, and-right}
+use Rattle.document.proofs.Ranges.{in-range}
 use Rattle.document.proofs.WrittenDates.{small-day}
 
 pub day-twos : (y m d : ℕ) (k : List ℕ) → y ≤ 9999 → m ≤ 99 → d ≤ 99
@@ -35,7 +35,7 @@ moment-parts s west z k hs hz h =
 
 zone-small : (west : Bool) (z : ℕ) → isZone (zoneOf west z) ≡ true → z ≤ 840
 zone-small false z v = leb-true z 840 v
-zone-small true z v = leb-true z 840 (and-right (leb 1 z) (leb z 840) v)
+zone-small true z v = in-range 1 z 840 v .1
 
 pub record Small (d : Day) : Type 0 where
   pub year : d .year ≤ 9999

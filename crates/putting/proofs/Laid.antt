@@ -8,6 +8,7 @@ use borrow.Author.Tests.{leb-true, leb-false}
 use lib.Dec.{leb}
 use lib.ListN.{length, set, length-set, length-append}
 use lib.Seq.{sets, length-sets, set-out}
+use Rattle.json.proofs.Stores.{sets-append}
 use Rattle.putting.specs.Puts.{greatestPlace, upTo, Puts}
 
 pub up-to : (n : ℕ) → upTo n ≡ min n greatestPlace
@@ -16,10 +17,6 @@ up-to n = go (leb n greatestPlace) refl
     go : (b : Bool) → leb n greatestPlace ≡ b → cond b n greatestPlace ≡ min n greatestPlace
     go true e = omega (arith, leb-true n greatestPlace e)
     go false e = omega (arith, leb-false n greatestPlace e)
-
-sets-append : (l : List ℕ) (a : ℕ) (xs ys : List ℕ) → sets (sets l a xs) (a + length xs) ys ≡ sets l a (xs ++ ys)
-sets-append l a [] ys = let e : a + 0 ≡ a = omega arith in rw e
-sets-append l a (x ∷ xs) ys = let e : a + suc (length xs) ≡ suc a + length xs = omega arith in rw e (sets-append (set l a x) (suc a) xs ys)
 
 sets-beyond : (l : List ℕ) (a : ℕ) (xs : List ℕ) → length l ≤ a → sets l a xs ≡ l
 sets-beyond l a [] h = refl
@@ -55,7 +52,7 @@ puts-then {before} {from} {text} {mid} {rest} {r} {s} {between} {after} p q =
           let fits : length (sets before from xs) ≤ greatestPlace = omega (arith, length-sets before from xs) in
           q .laid (near h) (rw first fits)
           ∙ rw (first, p .place h) (sets-stopped (sets before from xs) (from + length xs) ys fits)
-          ∙ sets-append before from xs ys;
+          ∙ sym (sets-append xs ys before from);
     }
 
 -- The same text, said in another way.

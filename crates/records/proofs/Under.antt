@@ -4,13 +4,14 @@ use mathlib.Core.Path.{_≡_, refl, ap, _∙_}
 use mathlib.Core.List.{List, [], _∷_}
 use mathlib.Core.Bool.{Bool, true, false, cond, not, _&&_, _||_, false≢true}
 use native.Mathlib.Omega.{arith}
-use borrow.Author.Tests.{eqb-true, eqb-false, leb-true, ne-eqb}
+use borrow.Author.Tests.{eqb-true, eqb-false, ne-eqb}
 use lib.Dec.{eqb, leb}
 use lib.ListN.{getD}
 use Rattle.document.specs.Date.{among}
 use Rattle.document.specs.Schema.{underCyclic}
 use Rattle.records.specs.Under.{typesUnder}
-use Rattle.json.proofs.Truth.{and-left, and-right}
+use Rattle.json.proofs.Truth.{and-left, and-right, never-true}
+use Rattle.document.proofs.Ranges.{in-range}
 
 -- A test of every number below one, and what it says of each.
 abbrev all-below : ℕ → (ℕ → Bool) → Bool
@@ -59,7 +60,7 @@ within lo hi (t ∷ ts) = (leb lo t && leb t hi) && within lo hi ts
 
 first-or-behind : (b : Bool) (lo hi k t : ℕ) (rest : Bool) → leb lo t && leb t hi ≡ true → (rest ≡ true → (lo ≤ k) × (k ≤ hi)) → b || rest ≡ true → eqb k t ≡ b → (lo ≤ k) × (k ≤ hi)
 first-or-behind true lo hi k t rest h g a e =
-    (omega (arith, eqb-true k t e, leb-true lo t (and-left (leb lo t) (leb t hi) h)), omega (arith, eqb-true k t e, leb-true t hi (and-right (leb lo t) (leb t hi) h)))
+    let r = in-range lo t hi h in (omega (arith, eqb-true k t e), omega (arith, eqb-true k t e))
 first-or-behind false lo hi k t rest h g a e = g a
 
 among-within : (lo hi k : ℕ) (ts : List ℕ) → within lo hi ts ≡ true → among k ts ≡ true → (lo ≤ k) × (k ≤ hi)
@@ -86,12 +87,8 @@ types-to-6 parent kind h = among-within 1 6 kind (typesUnder parent) (types-with
 pub types-to-3 : (kind : ℕ) → among kind (typesUnder 1) ≡ true → (1 ≤ kind) × (kind ≤ 3)
 types-to-3 kind h = among-within 1 3 kind (typesUnder 1) refl h
 
-no-true : (b : Bool) → (b ≡ true → ⊥) → false ≡ b
-no-true true h = absurd (h refl)
-no-true false h = refl
-
 pub none-behind-6 : (parent kind : ℕ) → 6 < kind → false ≡ among kind (typesUnder parent)
-none-behind-6 parent kind h = no-true _ (λ a. omega (arith, types-to-6 parent kind a .1))
+none-behind-6 parent kind h = never-true _ (λ a. omega (arith, types-to-6 parent kind a .1))
 
 pub none-behind-4 : (parent kind : ℕ) → 4 < parent → false ≡ among kind (typesUnder parent)
 none-behind-4 parent kind h =

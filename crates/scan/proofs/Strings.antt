@@ -31,23 +31,23 @@ unfolding stringStop
 string-none c = refl
 
 -- a byte that is plain ASCII is a character
-ascii-lead : (a b c d e f : Bool) (rest : Lead) → cond a false (cond b true (cond c false (cond d true (cond e false (cond f true false))))) ≡ true
+ascii-rows : (a b c d e f : Bool) (rest : Lead) → cond a false (cond b true (cond c false (cond d true (cond e false (cond f true false))))) ≡ true
     → cond a Control (cond b Ascii (cond c Quote (cond d Ascii (cond e Backslash (cond f Ascii rest))))) ≡ Ascii
-ascii-lead true b c d e f rest h = absurd (false≢true h)
-ascii-lead false true c d e f rest h = refl
-ascii-lead false false true d e f rest h = absurd (false≢true h)
-ascii-lead false false false true e f rest h = refl
-ascii-lead false false false false true f rest h = absurd (false≢true h)
-ascii-lead false false false false false true rest h = refl
-ascii-lead false false false false false false rest h = absurd (false≢true h)
+ascii-rows true b c d e f rest h = absurd (false≢true h)
+ascii-rows false true c d e f rest h = refl
+ascii-rows false false true d e f rest h = absurd (false≢true h)
+ascii-rows false false false true e f rest h = refl
+ascii-rows false false false false true f rest h = absurd (false≢true h)
+ascii-rows false false false false false true rest h = refl
+ascii-rows false false false false false false rest h = absurd (false≢true h)
 
-is-lead : (b : ℕ) → isAscii b ≡ true → lead b ≡ Ascii
+pub ascii-lead : (b : ℕ) → isAscii b ≡ true → lead b ≡ Ascii
 unfolding isAscii lead look
-is-lead b h = ascii-lead (ltb b 32) (ltb b 34) (ltb b 35) (ltb b 92) (ltb b 93) (ltb b 128) _ h
+ascii-lead b h = ascii-rows (ltb b 32) (ltb b 34) (ltb b 35) (ltb b 92) (ltb b 93) (ltb b 128) _ h
 
 is-plain : (b : ℕ) → isAscii b ≡ true → after Plain b ≡ Goes Plain
 unfolding after
-is-plain b h = rw (is-lead b h)
+is-plain b h = rw (ascii-lead b h)
 
 pub ascii-goes : (b : ℕ) → isAscii b ≡ true → (s : List ℕ) → stringStop Plain (b ∷ s) ≡ stringStop Plain s
 ascii-goes b h = string-goes Plain b (is-plain b h)

@@ -1,12 +1,12 @@
 -- What the bytes of each kind are, and what they are not.
-use Prim.Native.Nat.{ℕ}
+use Prim.Native.Nat.{ℕ, _≤_, _<_}
 use mathlib.Core.Path.{_≡_, refl, sym, ap, _∙_}
 use mathlib.Core.List.{List, [], _∷_}
 use mathlib.Core.Bool.{Bool, true, false, _&&_, _||_, not, false≢true, true≢false}
 use lib.Dec.{eqb}
 use borrow.Author.Tests.{ne-eqb}
 use native.Mathlib.Omega.{arith}
-use Rattle.json.specs.Rows.{look}
+use Rattle.json.specs.Rows.{look, below, else}
 use Rattle.json.specs.Byte.{isBlank, isNumeric, within, isTo7, is8ToB}
 use Rattle.json.specs.String.{lead, letter}
 use Rattle.json.specs.Number.{onward}
@@ -18,11 +18,23 @@ use Rattle.json.specs.declared.number.InNumber.{InNumber}
 use Rattle.json.specs.declared.number.InNumber.the-variants.{Start, Minus, Zero, Whole, Point, Fraction, Mark, Sign, Power}
 use Rattle.json.specs.declared.number.DigitStep.{DigitStep}
 use Rattle.json.specs.declared.number.DigitStep.the-variants.{Onward, Over}
-use Rattle.spelling.proofs.Tables.{by-rows, tables, always, rowsFrom}
+use Rattle.spelling.proofs.Tables.{each, by-rows, tables, always, rowsFrom}
 
 -- A byte that a test holds of is no byte that it does not hold of.
 pub apart : (f : ℕ → Bool) (b x : ℕ) → f b ≡ true → f x ≡ false → eqb b x ≡ false
 apart f b x e h = ne-eqb b x (λ (p : b ≡ x). true≢false (sym e ∙ ap f p ∙ h))
+
+-- A byte between two bounds.
+abbrev Bound : ℕ → ℕ → ℕ → Bool → Type 0
+Bound lo hi b true = (lo ≤ b) × (b < hi)
+Bound lo hi b false = Unit {0}
+
+bound : (lo hi b : ℕ) → Bound lo hi b (within lo hi b)
+unfolding within
+bound lo hi b = each (Bound lo hi b) 0 b (below lo false (below hi true (else false))) (omega arith) (λ _ _. tt, (λ l h. (l, h), λ _. tt))
+
+pub within-is : (lo hi b : ℕ) → within lo hi b ≡ true → (lo ≤ b) × (b < hi)
+within-is lo hi b e = rw e at (bound lo hi b)
 
 abbrev isOnward : DigitStep → Bool
 isOnward (Onward m) = true

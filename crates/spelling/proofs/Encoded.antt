@@ -2,10 +2,10 @@
 use Prim.Native.Nat.{ℕ, _≤_, _<_}
 use mathlib.Core.Path.{_≡_, refl}
 use mathlib.Core.List.{List, _∷_, _++_}
-use mathlib.Core.Bool.{Bool, true, false}
+use mathlib.Core.Bool.{true}
 use native.Mathlib.Omega.{arith}
-use Rattle.json.specs.Rows.{look, below, else}
-use Rattle.json.specs.Byte.{isTail, within}
+use Rattle.json.specs.Rows.{look}
+use Rattle.json.specs.Byte.{isTail}
 use Rattle.json.specs.String.{lead, letter}
 use Rattle.json.specs.declared.string.Lead.{Lead}
 use Rattle.json.specs.declared.string.Lead.the-variants.{Control, Ascii, Quote, Backslash, Stray, Two, E0, Three, Ed, F0, Four, F4}
@@ -15,8 +15,8 @@ use Rattle.json.specs.Grammar as G
 use Rattle.json.specs.Grammar.{Char, Chars, four, paired}
 use Rattle.spelling.specs.Utf8 as U
 use Rattle.spelling.specs.Utf8.{Utf8, In}
-use Rattle.spelling.proofs.Tables.{by-rows, each}
-use Rattle.spelling.proofs.Bytes.{leadBounds, letterBounds}
+use Rattle.spelling.proofs.Tables.{by-rows}
+use Rattle.spelling.proofs.Bytes.{leadBounds, letterBounds, within-is}
 use Rattle.spelling.proofs.Digits.{four-small, four-no-D, four-D, high-half, low-half}
 use Rattle.spelling.proofs.Points.{split, point-utf8}
 
@@ -38,18 +38,6 @@ Led b F4 = In 0xF4 0xF4 b
 led : (b : ℕ) → Led b (lead b)
 unfolding lead look
 led b = by-rows (Led b) lead leadBounds b refl (omega arith, (omega arith, (omega arith, (omega arith, (omega arith, (omega arith, (omega arith, omega arith)))))))
-
--- A byte between two bounds.
-abbrev Bound : ℕ → ℕ → ℕ → Bool → Type 0
-Bound lo hi b true = (lo ≤ b) × (b < hi)
-Bound lo hi b false = Unit {0}
-
-bound : (lo hi b : ℕ) → Bound lo hi b (within lo hi b)
-unfolding within
-bound lo hi b = each (Bound lo hi b) 0 b (below lo false (below hi true (else false))) (omega arith) (λ _ _. tt, (λ l h. (l, h), λ _. tt))
-
-within-is : (lo hi b : ℕ) → within lo hi b ≡ true → (lo ≤ b) × (b < hi)
-within-is lo hi b e = rw e at (bound lo hi b)
 
 tail-is : (b : ℕ) → isTail b ≡ true → (0x80 ≤ b) × (b < 0xC0)
 unfolding isTail

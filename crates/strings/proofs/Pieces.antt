@@ -9,7 +9,7 @@ use Rattle.characters.specs.Characters.{bytesOf, plainFrom, left, GivesBytes}
 use Rattle.characters.specs.declared.Spot.{Spot}
 use Rattle.characters.specs.declared.NextBytes.{NextBytes}
 use Rattle.characters.proofs.Ahead.{bytes-size, left-length}
-use Rattle.strings.proofs.Runs.{sets-append}
+use Rattle.json.proofs.Stores.{sets-append}
 
 -- Laid into a buffer that was `before`, up to the place k.
 pub record Puts (text before : List ℕ) (to : ℕ) (bytes buffer : List ℕ) (s : Spot) (k : ℕ) : Type 0 where
@@ -46,7 +46,7 @@ module _ {text : List ℕ} {s : Spot} {r : NextBytes} (g : GivesBytes text s r) 
     put-on e = record {
       room = count-on k (p .room);
       sized = ap length e ∙ length-sets buffer k (bytesOf (r .out)) ∙ p .sized;
-      answer = rw e (ap (λ m. sets (sets buffer k (bytesOf (r .out))) (k + m) (left text (r .spot))) (sym (bytes-size g)) ∙ sym (sets-append buffer k (bytesOf (r .out)) (left text (r .spot))) ∙ rw (g .bytes) at (p .answer));
+      answer = rw e (ap (λ m. sets (sets buffer k (bytesOf (r .out))) (k + m) (left text (r .spot))) (sym (bytes-size g)) ∙ sym (sets-append (bytesOf (r .out)) (left text (r .spot)) buffer k) ∙ rw (g .bytes) at (p .answer));
     }
 
     -- What is given has room from k on.

@@ -1,21 +1,17 @@
 -- Bytes of the text that are the string's: passed over, counted and copied as they stand.
-use Prim.Native.Nat.{ℕ, suc, _+_, _-_, _<_, _≤_}
+use Prim.Native.Nat.{ℕ, _+_, _-_, _<_, _≤_}
 use mathlib.Core.Path.{_≡_, refl, sym, ap, _∙_}
 use mathlib.Core.List.{List, [], _∷_, _++_, append-assoc}
 use lib.ListN.{length, getD, take, set, length-set, length-append, length-take, length-drop}
 use lib.Seq.{sets, slice, slice-empty, slice-cons, take-suc, drop-append-le, length-take-le}
-use native.Mathlib.Nat.{add-zero}
 use native.Mathlib.Numerals.{add-one}
 use native.Mathlib.Omega.{arith}
 use Rattle.json.specs.String.{lead}
 use Rattle.json.specs.declared.string.Lead.the-variants.{Ascii}
 use Rattle.characters.specs.Characters.{plainFrom}
 use Rattle.strings.specs.Strings.{Run}
+use Rattle.json.proofs.Stores.{sets-append}
 use Rattle.characters.proofs.Ascii.{ascii-from}
-
-pub sets-append : (l : List ℕ) (i : ℕ) (xs ys : List ℕ) → sets l i (xs ++ ys) ≡ sets (sets l i xs) (i + length xs) ys
-sets-append l i [] ys = rw (add-zero i)
-sets-append l i (x ∷ xs) ys = let e : i + suc (length xs) ≡ suc i + length xs = omega arith in rw e (sets-append (set l i x) (suc i) xs ys)
 
 slice-more : (text : List ℕ) (at i : ℕ) → at ≤ i → i < length text → slice at (i + 1) text ≡ slice at i text ++ (getD text i 0 ∷ [])
 slice-more text at i h l =
@@ -43,7 +39,7 @@ module _ {text : List ℕ} {at i : ℕ} (r : Run text at i) where
   pub run-copied : (before : List ℕ) (to : ℕ) {mid after : List ℕ} → mid ≡ sets before to (slice at i text) → after ≡ sets mid (to + (i - at)) (plainFrom text i)
       → after ≡ sets before to (plainFrom text at)
   run-copied before to e f =
-      f ∙ rw (e, ← run-size) (sym (sets-append before to (slice at i text) (plainFrom text i))) ∙ sym (ap (sets before to) (r .bytes))
+      f ∙ rw (e, ← run-size) (sym (sets-append (slice at i text) (plainFrom text i) before to)) ∙ sym (ap (sets before to) (r .bytes))
 
 -- ---- a copy into a buffer that was `before`, from j on to be laid at i
 pub record Copies (text before : List ℕ) (from end to : ℕ) (buffer : List ℕ) (j i : ℕ) : Type 0 where

@@ -5,7 +5,7 @@ use mathlib.Core.List.{List, [], _∷_, _++_}
 use mathlib.Core.Bool.{Bool, true, false, or-true}
 use native.Mathlib.Omega.{arith}
 use lib.ListN.{length, take, drop, take-append-drop, drop-of-length-le, length-drop, length-append}
-use lib.Seq.{drop-cons, drop-append-le, take-all}
+use lib.Seq.{drop-cons, drop-append-le, take-all, length-take-le}
 use lib.Dec.{leb, ltb}
 use borrow.Author.Tests.{ltb-true, ltb-false, leb-true, leb-false, le-leb, lt-leb, lt-ltb, le-ltb}
 use Rattle.json.specs.Tree.{placeIn}
@@ -93,9 +93,6 @@ module _ (n : ℕ) (run : List ℕ) where
 pub place-of : (run : List ℕ) (p : ℕ) → p ≤ length run → placeIn run (drop p run) ≡ p
 place-of run p h = omega (arith, length-drop p run)
 
-pub length-first : (n : ℕ) (run : List ℕ) → n ≤ length run → length (take n run) ≡ n
-length-first n run h = omega (arith, length-append (take n run) (drop n run), ap length (take-append-drop n run), length-drop n run)
-
 first-length : (n : ℕ) (run : List ℕ) → length (take n run) ≤ n
 first-length zero run = omega arith
 first-length (suc n) [] = omega arith
@@ -136,7 +133,7 @@ module _ (run : List ℕ) where
             ap (firstWalked run) (g ∙ ap (walk m k) d ∙ walk-none m k) ∙ ap (notEnded 2 run) q
         open-on m k g l false e =
             let b = leb-false (length run) textAtMost e in
-            let n = length-first textAtMost run (omega arith) in
+            let n = length-take-le textAtMost run (omega arith) in
             ap (firstWalked run) g
             ∙ beyond (walk m k (drop textAtMost run)) b (rw (length-drop textAtMost run) at (walk-leaves m k (drop textAtMost run)))
             ∙ sym (rw (lt-leb (length run) textAtMost b, le-ltb place textAtMost (omega arith)))

@@ -18,15 +18,16 @@ use Rattle.document.specs.Words.{recordWords, allWords}
 use Rattle.document.specs.Plain.{field, typed, dosageTree, daysTree, timesTree, segmentsTree, timedTree}
 use Rattle.document.specs.declared.table.Record.{Record}
 use Rattle.json.proofs.Truth.{and-left, and-right}
+use Rattle.document.proofs.Ranges.{in-range}
 use Rattle.document.proofs.DaySets.{set-back}
 use Rattle.words.specs.Standing.{At, Lies}
 use Rattle.plain.specs.Prints.{DosagePrints, simple, fromTo, range, atTime, inSegment, ApplicationsPrint, none, more, PlainPrints, dosageOnly, times, segments, TimedPrints, plain, weekDays, daysOfMonth, interval}
 
 pub duration : (n : ℕ) → isDuration n ≡ true → n ≤ greatestInteger
-duration n v = leb-true n greatestInteger (and-right (leb 1 n) (leb n greatestInteger) v)
+duration n v = in-range 1 n greatestInteger v .1
 
 pub unit : (u : ℕ) → isTimeUnit u ≡ true → u ≤ 7
-unit u v = leb-true u 7 (and-right (leb 1 u) (leb u 7) v)
+unit u v = in-range 1 u 7 v .1
 
 module _ {ws : List ℕ} where
   dosage-prints : (d : Dosage) (i : ℕ) → validDosage d ≡ true → At ws i (recordWords (dosageRow d)) → DosagePrints ws i (dosageTree d)
@@ -59,7 +60,7 @@ module _ {ws : List ℕ} where
       let w = and-left (validDosage d && within) (every validInSegment ss) v in
       let n : i + 1 + 1 ≡ i + 2 = omega arith in
       let rest = subst (λ x. Lies ws x (allWords (segmentsRows ss rs))) n (l .1 .1) in
-      more {i = i} (omega arith) (inSegment (l .0) (leb-true s 4 (and-right (leb 1 s) (leb s 4) (and-right (validDosage d) within w))) (dosage-prints d (i + 1) (and-left (validDosage d) within w) (l .1 .0)))
+      more {i = i} (omega arith) (inSegment (l .0) (in-range 1 s 4 (and-right (validDosage d) within w) .1) (dosage-prints d (i + 1) (and-left (validDosage d) within w) (l .1 .0)))
       (segments-print ss rs (i + 2) end (and-right (validDosage d && within) (every validInSegment ss) v) (omega arith) rest)
 
   plain-prints : (td : Timed) (rs : List Record) (i : ℕ) → validTimed td underDays ≡ true → i + timedRecords td ≤ 64 → Lies ws i (allWords (timedRows td rs)) → PlainPrints ws i (timedTree td)

@@ -24,7 +24,7 @@ use Rattle.document.proofs.Untabled.{bytesOf, strings-append}
 use Rattle.document.proofs.Lengths.{plain-at-most}
 use Rattle.checking.specs.Readable.{PieceAt, absent, present}
 use Rattle.checking.proofs.Read.{readable-laid}
-use Rattle.checking.proofs.HeadValues.{valid-parts}
+use Rattle.document.proofs.ValidParts.{valid-parts}
 use Rattle.checking.proofs.Stands.{readable-stands}
 use Rattle.putting.specs.Puts.{greatestPlace, upTo, Puts}
 use Rattle.plain.specs.Prints.{DetailPrints}

@@ -1,9 +1,8 @@
 -- The first 32,768 bytes of a run, or all of a shorter one.
 use mathlib.Core.Path.{sym}
 use native.Mathlib.Omega.{arith}
-use lib.Seq.{take-all}
+use lib.Seq.{take-all, length-take-le}
 use Rattle.document.specs.Answer.{textAtMost}
-use Rattle.texts.proofs.Prefixes.{length-first}
 use borrow.Author.Needs.{needs}
 use Rattle.texts.proofs.begun.Statement.{statement}
 use Rattle.texts.proofs.begun.Tie as tie
@@ -12,7 +11,7 @@ returns : tie.Need-returns
 returns c = sym (take-all textAtMost (c .before .args .run .now) (c .if1 .taken))
 
 slice-aggregate-result : tie.Need-slice-aggregate-result
-slice-aggregate-result c = sym (length-first textAtMost (c .before .before .args .run .now) (omega arith))
+slice-aggregate-result c = sym (length-take-le textAtMost (c .before .before .args .run .now) (omega arith))
 
 returns-2 : tie.Need-returns-2
 returns-2 c = search needs

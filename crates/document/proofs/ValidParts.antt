@@ -1,0 +1,38 @@
+-- What makes a posology valid, part by part.
+use mathlib.Core.Path.{_≡_}
+use mathlib.Core.Bool.{true}
+use Prim.Native.Nat.{ℕ, _≤_}
+use lib.Dec.{leb}
+use borrow.Author.Tests.{leb-true, le-leb}
+use Rattle.document.specs.Posology.{Posology}
+use Rattle.document.specs.Date.{isDate, inOrder}
+use Rattle.document.specs.Schema.{sequencesInside}
+use Rattle.document.specs.Visit.{recordsAtMost}
+use Rattle.document.specs.Valid.{isText, isMeal, ifGiven, isUnitFor, validDetail, validFields, valid, detailRecords}
+use Rattle.json.proofs.Truth.{and-both, and-left, and-right}
+use Rattle.document.proofs.Parts.{all-nine}
+
+pub record ValidParts (purpose : ℕ) (p : Posology) : Type 0 where
+  pub from : ifGiven isDate (p .dtFrom) ≡ true
+  pub to : ifGiven isDate (p .dtTo) ≡ true
+  pub detail : validDetail (p .po) sequencesInside ≡ true
+  pub meal : ifGiven isMeal (p .relMeal) ≡ true
+  pub unit : isUnitFor purpose (p .unit) ≡ true
+  pub instructions : ifGiven isText (p .applInstr) ≡ true
+  pub roa : ifGiven isText (p .roa) ≡ true
+  pub moa : ifGiven isText (p .moa) ≡ true
+  pub ordered : inOrder (p .dtFrom) (p .dtTo) ≡ true
+
+pub valid-parts : (purpose : ℕ) (p : Posology) → valid purpose p ≡ true → ValidParts purpose p
+unfolding valid validFields
+valid-parts purpose p v =
+    let n = all-nine (ifGiven isDate (p .dtFrom)) (ifGiven isDate (p .dtTo)) (validDetail (p .po) sequencesInside) (ifGiven isMeal (p .relMeal)) (isUnitFor purpose (p .unit)) (ifGiven isText (p .applInstr)) (ifGiven isText (p .roa)) (ifGiven isText (p .moa)) (inOrder (p .dtFrom) (p .dtTo)) (and-left (validFields purpose p) (leb (detailRecords (p .po)) recordsAtMost) v) in
+    record { from = n .0; to = n .1; detail = n .2; meal = n .3; unit = n .4; instructions = n .5; roa = n .6; moa = n .7; ordered = n .8 }
+
+pub few-records : (purpose : ℕ) (p : Posology) → valid purpose p ≡ true → detailRecords (p .po) ≤ recordsAtMost
+unfolding valid
+few-records purpose p v = leb-true (detailRecords (p .po)) recordsAtMost (and-right (validFields purpose p) (leb (detailRecords (p .po)) recordsAtMost) v)
+
+pub parts-valid : (purpose : ℕ) (p : Posology) → ValidParts purpose p → detailRecords (p .po) ≤ recordsAtMost → valid purpose p ≡ true
+unfolding valid validFields
+parts-valid purpose p n few = and-both (and-both (and-both (and-both (and-both (and-both (and-both (and-both (and-both (n .from) (n .to)) (n .detail)) (n .meal)) (n .unit)) (n .instructions)) (n .roa)) (n .moa)) (n .ordered)) (le-leb (detailRecords (p .po)) recordsAtMost few)
