@@ -10,7 +10,8 @@ use Rattle.document.specs.declared.table.Date.{Date}
 use Rattle.document.specs.declared.table.Date.the-variants as D
 use Rattle.document.specs.declared.table.Head.{Head}
 use Rattle.eights.specs.Eights.{allBytes}
-use Rattle.eights.proofs.Bytes.{sets-append, sets-whole, all-length, all-append}
+use Rattle.json.proofs.Stores.{sets-append}
+use Rattle.eights.proofs.Bytes.{sets-whole, all-length, all-append}
 
 date-front : (d : Date) (k r : List ℕ) → dateWords d k ++ r ≡ dateWords d (k ++ r)
 date-front D.Absent k r = refl

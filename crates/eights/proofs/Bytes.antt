@@ -8,14 +8,8 @@ use native.Mathlib.Numerals.{add-one}
 use lib.ListN.{length, drop, getD, set, drop-of-length-le}
 use lib.Seq.{sets, sets-eq, getD-drop, drop-drop, drop-length}
 use Rattle.json.proofs.Moves.{byte-here}
+use Rattle.json.proofs.Stores.{sets-append}
 use Rattle.eights.specs.Eights.{bytesOf, allBytes, numberIn}
-
--- Bytes stored in two goes.
-pub sets-append : (xs ys l : List ℕ) (at : ℕ) → sets l at (xs ++ ys) ≡ sets (sets l at xs) (at + length xs) ys
-sets-append [] ys l at = ap (λ (n : ℕ). sets l n ys) (omega arith)
-sets-append (x ∷ xs) ys l at =
-    let e : suc at + length xs ≡ at + suc (length xs) = omega arith in
-    sets-append xs ys (set l at x) (suc at) ∙ ap (λ (n : ℕ). sets (sets (set l at x) (suc at) xs) n ys) e
 
 pub bytes-front : (n x : ℕ) (k : List ℕ) → bytesOf n x k ≡ bytesOf n x [] ++ k
 unfolding bytesOf
