@@ -30,14 +30,14 @@ pub(crate) fn name_of(first: bool, a: usize, b: usize) -> usize
     b
 }
 
-// The same of two tags.
-pub(crate) fn tag_of(first: bool, a: u64, b: u64) -> u64
-    ensures { λ r. ⌜ r ≡ cond first a b ⌝ }
+// The tag of an application's record.
+fn tag_of(timed: bool) -> u64
+    ensures { λ r. ⌜ r ≡ cond timed 17 18 ⌝ }
 {
-    if first {
-        return a;
+    if timed {
+        return 17;
     }
-    b
+    18
 }
 
 // The time of day, or the segment.
@@ -76,7 +76,7 @@ fn read_application(text: &[u8], at: usize, timed: bool, used: Used, words: &mut
     let Field::Is(n) = f else {
         return up(f);
     };
-    rows::above(words, used, done, tag_of(timed, 17, 18), n, 0, 0, 0)
+    rows::above(words, used, done, tag_of(timed), n, 0, 0, 0)
 }
 
 // The applications of the list at `at`. Each takes a record, so there are never more than those left.
