@@ -20,7 +20,7 @@ ghost use lib.ListN.{length};
 ghost use Rattle.visits.specs.Visiting.{Ready, anApplication, ApplicationRows, ApplicationsRows, ReadsOwn, VisitsObject, VisitsEach};
 ghost use Rattle.visits.specs.Kept.{Kept};
 
-// The first of two names, or the second.
+// The name that only one of two objects read alike has.
 pub(crate) fn name_of(first: bool, a: usize, b: usize) -> usize
     ensures { λ r. ⌜ r ≡ cond first a b ⌝ }
 {
@@ -30,7 +30,6 @@ pub(crate) fn name_of(first: bool, a: usize, b: usize) -> usize
     b
 }
 
-// The tag of an application's record.
 fn tag_of(timed: bool) -> u64
     ensures { λ r. ⌜ r ≡ cond timed 17 18 ⌝ }
 {
@@ -40,7 +39,7 @@ fn tag_of(timed: bool) -> u64
     18
 }
 
-// The time of day, or the segment.
+// The time of day, or the segment of the day.
 fn own_field(text: &[u8], at: usize, v: usize, timed: bool) -> Field
     ensures { λ r. ⌜ (at ≤ length (now (text .entry)) → ReadsOwn timed (now (text .entry)) at v r) ⌝ }
 {

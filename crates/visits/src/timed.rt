@@ -78,7 +78,7 @@ fn dosage_only(text: &[u8], at: usize, o: Opened, used: Used, words: &mut [u64])
     rows::above(words, used, done, 6, 0, 0, 0, 0)
 }
 
-// Types 2 and 3.
+// Times and DaySegments, types 2 and 3. A timed dosage's tag is its type and 5.
 fn applications(text: &[u8], at: usize, o: Opened, used: Used, words: &mut [u64]) -> Visit
     requires { ⌜ Ready (now words) used × (used .records < 64) × (at ≤ length (now text)) × (2 ≤ o .kind) × (o .kind ≤ 3) ⌝ }
     ensures { λ r. ⌜ ((ts : List ℕ) → VisitsBody (aTimed ts) (o .kind) TimedRows (now (text .entry)) at o used (now (words .entry)) r (now (words .exit))) ⌝ }
@@ -165,7 +165,7 @@ fn days_of(text: &[u8], at: usize, v: usize, week: bool) -> Field
     days::month_days(text, at, v)
 }
 
-// Types 4 and 5.
+// WeekDays and DaysOfMonth, types 4 and 5.
 fn on_days(text: &[u8], at: usize, o: Opened, used: Used, words: &mut [u64]) -> Visit
     requires { ⌜ Ready (now words) used × (used .records < 64) × (at ≤ length (now text)) × (4 ≤ o .kind) × (o .kind ≤ 5) ⌝ }
     ensures { λ r. ⌜ ((ts : List ℕ) → VisitsBody (aTimed ts) (o .kind) TimedRows (now (text .entry)) at o used (now (words .entry)) r (now (words .exit))) ⌝ }
