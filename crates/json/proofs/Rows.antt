@@ -1,10 +1,12 @@
 -- What a table says of a byte, row by row.
-use Prim.Native.Nat.{ℕ, _<_, _≤_}
+use Prim.Native.Nat.{ℕ, suc, _<_, _≤_}
 use mathlib.Core.Path.{_≡_, refl, sym, ap, _∙_}
-use mathlib.Core.Bool.{Bool, true, false}
-use lib.Dec.{leb}
-use borrow.Author.Tests.{lt-ltb, le-ltb, leb-true}
+use mathlib.Core.List.{List, [], _∷_}
+use mathlib.Core.Bool.{Bool, true, false, _&&_, _||_}
+use lib.Dec.{leb, eqb}
+use borrow.Author.Tests.{lt-ltb, le-ltb, leb-true, ne-eqb}
 use native.Mathlib.Omega.{arith}
+use native.Mathlib.Decide.{decLt}
 use Rattle.json.specs.Rows.{Rows, else, below, look, choose}
 
 module _ (A : Type 0) where
@@ -67,3 +69,42 @@ under hi A b a rows h e = sym (ap (look b) e) ∙ look-up-to hi b rows h
 
 pub between : (lo hi : ℕ) (A : Type 0) (b : ℕ) (a : A) (rows : Rows A) → lo ≤ b → b < hi → upTo hi (from lo rows) ≡ else a → a ≡ look b rows
 between lo hi A b a rows l h e = onwards lo A b a rows l (under hi A b a (from lo rows) h e)
+
+-- Where the code goes by single bytes: none of them is b.
+abbrev pub Off : List ℕ → ℕ → Type 0
+Off [] b = Unit {0}
+Off (k ∷ keys) b = Off keys b × (b ≡ k → ⊥)
+
+abbrev has : List ℕ → ℕ → Bool
+has [] b = false
+has (k ∷ keys) b = eqb b k || has keys b
+
+off-has : (keys : List ℕ) (b : ℕ) → Off keys b → has keys b ≡ false
+off-has [] b o = refl
+off-has (k ∷ keys) b o = rw (ne-eqb b k (o .1)) (off-has keys b (o .0))
+
+module _ {A : Type 0} where
+  -- The rows from lo on with a for what they say, but for the row of a single byte that is a key.
+  abbrev levelled : List ℕ → ℕ → A → Rows A → Rows A
+  levelled keys lo a (else x) = else a
+  levelled keys lo a (below n x rows) = below n (choose (leb n (suc lo) && has keys lo) (λ _. x) λ _. a) (levelled keys n a rows)
+
+  look-levelled : (keys : List ℕ) (lo b : ℕ) (a : A) (rows : Rows A) → Off keys b → lo ≤ b → look b (levelled keys lo a rows) ≡ a
+  unfolding look
+  look-levelled keys lo b a (else x) o l = refl
+  look-levelled keys lo b a (below n x rows) o l = elim (decLt b n) [
+    | yes h ↦ rw (lt-ltb b n h) (by h (leb n (suc lo)) refl)
+    | no g ↦ rw (le-ltb b n (omega arith)) (look-levelled keys n b a rows o (omega arith))
+  ]
+    where
+      by : b < n → (t : Bool) → leb n (suc lo) ≡ t → choose (t && has keys lo) (λ _. x) (λ _. a) ≡ a
+      by h true e =
+          let g : n ≤ suc lo = leb-true n (suc lo) e in
+          let p : lo ≡ b = omega arith in
+          rw (p, off-has keys b o)
+      by h false e = refl
+
+-- the rows of all other bytes
+pub others : (keys : List ℕ) (A : Type 0) (b : ℕ) (a : A) (rows : Rows A) → Off keys b → levelled keys 0 a rows ≡ rows → a ≡ look b rows
+unfolding look
+others keys A b a rows o e = sym (look-levelled keys 0 b a rows o (omega arith)) ∙ ap (look b) e

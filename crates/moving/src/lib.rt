@@ -30,44 +30,15 @@ pub fn byte_at(text: &[u8], at: usize) -> u8
 pub fn kind_at(text: &[u8], at: usize) -> Kind
     ensures { λ r. ⌜ r ≡ kindOf (drop at (now (text .entry))) ⌝ }
 {
-    let b = byte_at(text, at);
-    if b < 34 {
-        return Kind::Number;
+    match byte_at(text, at) {
+        b'"' => Kind::Text,
+        b'[' => Kind::Array,
+        b'f' => Kind::False,
+        b'n' => Kind::Null,
+        b't' => Kind::True,
+        b'{' => Kind::Object,
+        _ => Kind::Number,
     }
-    if b < 35 {
-        return Kind::Text;
-    }
-    if b < 91 {
-        return Kind::Number;
-    }
-    if b < 92 {
-        return Kind::Array;
-    }
-    if b < 102 {
-        return Kind::Number;
-    }
-    if b < 103 {
-        return Kind::False;
-    }
-    if b < 110 {
-        return Kind::Number;
-    }
-    if b < 111 {
-        return Kind::Null;
-    }
-    if b < 116 {
-        return Kind::Number;
-    }
-    if b < 117 {
-        return Kind::True;
-    }
-    if b < 123 {
-        return Kind::Number;
-    }
-    if b < 124 {
-        return Kind::Object;
-    }
-    Kind::Number
 }
 
 // The place behind the byte at `at`.

@@ -68,61 +68,20 @@ pub fn is_hex(b: u8) -> bool
 pub fn is_d(b: u8) -> bool
     ensures { λ r. ⌜ r ≡ isD b ⌝ }
 {
-    if b < 68 {
-        return false;
-    }
-    if b < 69 {
-        return true;
-    }
-    if b < 100 {
-        return false;
-    }
-    if b < 101 {
-        return true;
-    }
-    false
+    digit_of(b) == 13
 }
 
 pub fn is_8_to_b(b: u8) -> bool
     ensures { λ r. ⌜ r ≡ is8ToB b ⌝ }
 {
-    if b < 56 {
-        return false;
-    }
-    if b < 58 {
-        return true;
-    }
-    if b < 65 {
-        return false;
-    }
-    if b < 67 {
-        return true;
-    }
-    if b < 97 {
-        return false;
-    }
-    if b < 99 {
-        return true;
-    }
-    false
+    // of the digit's four bits the upper two are 10
+    digit_of(b) / 4 == 2
 }
 
 pub fn is_c_to_f(b: u8) -> bool
     ensures { λ r. ⌜ r ≡ isCToF b ⌝ }
 {
-    if b < 67 {
-        return false;
-    }
-    if b < 71 {
-        return true;
-    }
-    if b < 99 {
-        return false;
-    }
-    if b < 103 {
-        return true;
-    }
-    false
+    12 <= digit_of(b)
 }
 
 pub fn wide(b: u8) -> u64

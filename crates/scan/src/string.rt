@@ -66,58 +66,18 @@ pub fn lead_of(b: u8) -> Lead
 pub fn letter_of(b: u8) -> Letter
     ensures { λ r. ⌜ r ≡ letter b ⌝ }
 {
-    if b < 34 {
-        return Letter::NoLetter;
+    match b {
+        b'"' => Letter::Means(b'"'),
+        b'/' => Letter::Means(b'/'),
+        b'\\' => Letter::Means(b'\\'),
+        b'b' => Letter::Means(8),
+        b'f' => Letter::Means(12),
+        b'n' => Letter::Means(10),
+        b'r' => Letter::Means(13),
+        b't' => Letter::Means(9),
+        b'u' => Letter::Unicode,
+        _ => Letter::NoLetter,
     }
-    if b < 35 {
-        return Letter::Means(34);
-    }
-    if 118 <= b {
-        return Letter::NoLetter;
-    }
-    if 117 <= b {
-        return Letter::Unicode;
-    }
-    if 116 <= b {
-        return Letter::Means(9);
-    }
-    if 115 <= b {
-        return Letter::NoLetter;
-    }
-    if 114 <= b {
-        return Letter::Means(13);
-    }
-    if 111 <= b {
-        return Letter::NoLetter;
-    }
-    if 110 <= b {
-        return Letter::Means(10);
-    }
-    if 103 <= b {
-        return Letter::NoLetter;
-    }
-    if 102 <= b {
-        return Letter::Means(12);
-    }
-    if 99 <= b {
-        return Letter::NoLetter;
-    }
-    if 98 <= b {
-        return Letter::Means(8);
-    }
-    if 93 <= b {
-        return Letter::NoLetter;
-    }
-    if 92 <= b {
-        return Letter::Means(92);
-    }
-    if 48 <= b {
-        return Letter::NoLetter;
-    }
-    if 47 <= b {
-        return Letter::Means(47);
-    }
-    Letter::NoLetter
 }
 
 // To this state where the test holds.

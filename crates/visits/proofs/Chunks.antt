@@ -64,18 +64,18 @@ module _ {n : ℕ} {k : List ℕ} where
   unfolding timedRows
   dosage-only-rows d e e′ = row-above 6 0 0 0 0 e e′
 
-  pub applications-rows : (timed : Bool) (as′ : List (OfFamily (anApplication timed))) {tag : ℕ} → tag ≡ cond timed 7 8 → n ≡ length as′ + length as′
-      → k ≡ rows (allWords (applicationsRows timed as′)) → row (words n tag 0 0 0 0) k ≡ rows (allWords (timedRows (withApplications timed as′) []))
+  pub applications-rows : (timed : Bool) (as′ : List (OfFamily (anApplication timed))) {kind : ℕ} → kind ≡ cond timed 2 3 → n ≡ length as′ + length as′
+      → k ≡ rows (allWords (applicationsRows timed as′)) → row (words n (kind + 5) 0 0 0 0) k ≡ rows (allWords (timedRows (withApplications timed as′) []))
   unfolding timedRows
-  applications-rows true ts t e e′ = ap (λ tag. row (words n tag 0 0 0 0) k) t ∙ row-above 7 0 0 0 0 e e′
-  applications-rows false ss t e e′ = ap (λ tag. row (words n tag 0 0 0 0) k) t ∙ row-above 8 0 0 0 0 e e′
+  applications-rows true ts t e e′ = ap (λ t. row (words n (t + 5) 0 0 0 0) k) t ∙ row-above 7 0 0 0 0 e e′
+  applications-rows false ss t e e′ = ap (λ t. row (words n (t + 5) 0 0 0 0) k) t ∙ row-above 8 0 0 0 0 e e′
 
-  pub days-rows : (week : Bool) (ds : List ℕ) (td : P.Timed) {tag set : ℕ} → tag ≡ cond week 9 10 → daySet ds ≡ set → n ≡ timedRecords td
-      → k ≡ rows (allWords (timedRows td [])) → row (words n tag set 0 0 0) k ≡ rows (allWords (timedRows (onDays week ds td) []))
+  pub days-rows : (week : Bool) (ds : List ℕ) (td : P.Timed) {kind set : ℕ} → kind ≡ cond week 4 5 → daySet ds ≡ set → n ≡ timedRecords td
+      → k ≡ rows (allWords (timedRows td [])) → row (words n (kind + 5) set 0 0 0) k ≡ rows (allWords (timedRows (onDays week ds td) []))
   unfolding timedRows
-  days-rows week ds td {tag} t b e e′ =
-      ap (λ s. row (words n tag s 0 0 0) k) (sym b)
-      ∙ either (λ w tag. row (words n tag (daySet ds) 0 0 0) k ≡ rows (allWords (timedRows (onDays w ds td) []))) week t (row-above 9 (daySet ds) 0 0 0 e e′) (row-above 10 (daySet ds) 0 0 0 e e′)
+  days-rows week ds td {kind} t b e e′ =
+      ap (λ s. row (words n (kind + 5) s 0 0 0) k) (sym b)
+      ∙ either (λ w t. row (words n (t + 5) (daySet ds) 0 0 0) k ≡ rows (allWords (timedRows (onDays w ds td) []))) week t (row-above 9 (daySet ds) 0 0 0 e e′) (row-above 10 (daySet ds) 0 0 0 e e′)
 
   pub interval-rows : (d : P.Dosage) (du unit : ℕ) → n ≡ 1 → k ≡ rows (allWords (dosageRow d ∷ [])) → row (words n 11 du unit 0 0) k ≡ rows (allWords (timedRows (P.interval d du unit) []))
   unfolding timedRows

@@ -1,6 +1,6 @@
 -- The names and the fields of each object's rows, by the numbers of the names.
 use Prim.Native.Nat.{ℕ}
-use mathlib.Core.Path.{_≡_, refl}
+use mathlib.Core.Path.{_≡_, refl, ap, sym, _∙_, subst}
 use mathlib.Core.List.{List, [], _∷_}
 use mathlib.Core.Bool.{Bool, true, false, cond}
 use lib.Dec.{ltb}
@@ -42,26 +42,28 @@ module _ (timed : Bool) {own : ℕ} (e : own ≡ cond timed 23 24) where
   application-known = either (λ t k. Known (anApplication t) 0 [] (8 ∷ k ∷ [])) timed e (record { counted = refl; named = refl }) (record { counted = refl; named = refl })
 
 -- Timed dosages
+pub applications-row : (timed : Bool) {own : ℕ} → own ≡ cond timed 9 10 → isRow (0 ∷ own ∷ []) ≡ true
+applications-row timed e = either (λ _ k. isRow (0 ∷ k ∷ []) ≡ true) timed e refl refl
+
+pub days-row : (week : Bool) {own : ℕ} → own ≡ cond week 11 12 → isRow (0 ∷ own ∷ 3 ∷ []) ≡ true
+days-row week e = either (λ _ k. isRow (0 ∷ k ∷ 3 ∷ []) ≡ true) week e refl refl
+
 module _ (ts : List ℕ) where
   pub dosage-only-known : Known (aTimed ts) 1 (bytes "t" ∷ []) (0 ∷ 8 ∷ [])
   unfolding rowsOf dosageOnlyRows nameAt names
   dosage-only-known = record { counted = refl; named = refl }
 
-  module _ (timed : Bool) {own : ℕ} (e : own ≡ cond timed 9 10) where
-    pub applications-row : isRow (0 ∷ own ∷ []) ≡ true
-    applications-row = either (λ _ k. isRow (0 ∷ k ∷ []) ≡ true) timed e refl refl
+  pub applications-known : (timed : Bool) {kind own : ℕ} → kind ≡ cond timed 2 3 → own ≡ cond timed 9 10 → Known (aTimed ts) kind (bytes "t" ∷ []) (0 ∷ own ∷ [])
+  unfolding rowsOf timesRows daySegmentsRows nameAt names
+  applications-known timed {own = own} t e =
+      subst (λ (n : ℕ). Known (aTimed ts) n (bytes "t" ∷ []) (0 ∷ own ∷ [])) (sym t)
+      (either (λ b k. Known (aTimed ts) (cond b 2 3) (bytes "t" ∷ []) (0 ∷ k ∷ [])) timed e (record { counted = refl; named = refl }) (record { counted = refl; named = refl }))
 
-    pub applications-known : Known (aTimed ts) (cond timed 2 3) (bytes "t" ∷ []) (0 ∷ own ∷ [])
-    unfolding rowsOf timesRows daySegmentsRows nameAt names
-    applications-known = either (λ t k. Known (aTimed ts) (cond t 2 3) (bytes "t" ∷ []) (0 ∷ k ∷ [])) timed e (record { counted = refl; named = refl }) (record { counted = refl; named = refl })
-
-  module _ (week : Bool) {own : ℕ} (e : own ≡ cond week 11 12) where
-    pub days-row : isRow (0 ∷ own ∷ 3 ∷ []) ≡ true
-    days-row = either (λ _ k. isRow (0 ∷ k ∷ 3 ∷ []) ≡ true) week e refl refl
-
-    pub days-known : Known (aTimed ts) (cond week 4 5) (bytes "t" ∷ []) (0 ∷ own ∷ 3 ∷ [])
-    unfolding rowsOf weekDaysRows daysOfMonthRows nameAt names
-    days-known = either (λ w k. Known (aTimed ts) (cond w 4 5) (bytes "t" ∷ []) (0 ∷ k ∷ 3 ∷ [])) week e (record { counted = refl; named = refl }) (record { counted = refl; named = refl })
+  pub days-known : (week : Bool) {kind own : ℕ} → kind ≡ cond week 4 5 → own ≡ cond week 11 12 → Known (aTimed ts) kind (bytes "t" ∷ []) (0 ∷ own ∷ 3 ∷ [])
+  unfolding rowsOf weekDaysRows daysOfMonthRows nameAt names
+  days-known week {own = own} t e =
+      subst (λ (n : ℕ). Known (aTimed ts) n (bytes "t" ∷ []) (0 ∷ own ∷ 3 ∷ [])) (sym t)
+      (either (λ b k. Known (aTimed ts) (cond b 4 5) (bytes "t" ∷ []) (0 ∷ k ∷ 3 ∷ [])) week e (record { counted = refl; named = refl }) (record { counted = refl; named = refl }))
 
   pub interval-known : Known (aTimed ts) 6 (bytes "t" ∷ []) (0 ∷ 8 ∷ 13 ∷ 14 ∷ [])
   unfolding rowsOf intervalRows nameAt names
@@ -110,28 +112,30 @@ module _ (p : Place) (es : List (Entry Value)) (l : Left) where
     unfolding rowsOf dosageOnlyRows nameAt names
     dosage-only-fields = refl
 
-    pub applications-fields : (timed : Bool) {own : ℕ} → own ≡ cond timed 9 10
-        → fields (rowsOf (aTimed ts) (cond timed 2 3)) p es l
+    pub applications-fields : (timed : Bool) {kind own : ℕ} → kind ≡ cond timed 2 3 → own ≡ cond timed 9 10
+        → fields (rowsOf (aTimed ts) kind) p es l
         ≡ (bind (needed (aList (any-objects (anApplication timed))) p (find (nameAt own) es) l) λ as′ l₁. done (withApplications timed as′) l₁)
     unfolding rowsOf timesRows daySegmentsRows nameAt names
-    applications-fields timed e =
-        either (λ t k.
-        fields (rowsOf (aTimed ts) (cond t 2 3)) p es l
-        ≡ (bind (needed (aList (any-objects (anApplication t))) p (find (nameAt k) es) l) λ as′ l₁. done (withApplications t as′) l₁))
+    applications-fields timed t e =
+        ap (λ k. fields (rowsOf (aTimed ts) k) p es l) t
+        ∙ either (λ b k.
+        fields (rowsOf (aTimed ts) (cond b 2 3)) p es l
+        ≡ (bind (needed (aList (any-objects (anApplication b))) p (find (nameAt k) es) l) λ as′ l₁. done (withApplications b as′) l₁))
         timed e refl refl
 
-    pub days-fields : (week : Bool) {own : ℕ} → own ≡ cond week 11 12
-        → fields (rowsOf (aTimed ts) (cond week 4 5)) p es l
+    pub days-fields : (week : Bool) {kind own : ℕ} → kind ≡ cond week 4 5 → own ≡ cond week 11 12
+        → fields (rowsOf (aTimed ts) kind) p es l
         ≡ (bind (needed (aList (days (cond week 7 28))) p (find (nameAt own) es) l) λ ds l₁.
         bind (needed (anObject (aTimed underDays)) p (find (nameAt 3) es) l₁) λ td l₂.
         done (onDays week ds td) l₂)
     unfolding rowsOf weekDaysRows daysOfMonthRows nameAt names
-    days-fields week e =
-        either (λ w k.
-        fields (rowsOf (aTimed ts) (cond w 4 5)) p es l
-        ≡ (bind (needed (aList (days (cond w 7 28))) p (find (nameAt k) es) l) λ ds l₁.
+    days-fields week t e =
+        ap (λ k. fields (rowsOf (aTimed ts) k) p es l) t
+        ∙ either (λ b k.
+        fields (rowsOf (aTimed ts) (cond b 4 5)) p es l
+        ≡ (bind (needed (aList (days (cond b 7 28))) p (find (nameAt k) es) l) λ ds l₁.
         bind (needed (anObject (aTimed underDays)) p (find (nameAt 3) es) l₁) λ td l₂.
-        done (onDays w ds td) l₂))
+        done (onDays b ds td) l₂))
         week e refl refl
 
     pub interval-fields :

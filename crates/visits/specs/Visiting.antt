@@ -56,14 +56,22 @@ VisitedIn text room u before rowsIn o (Refused n p) after = Refuses text o n p �
 abbrev pub Visited : {A : Type 0} → List ℕ → ℕ → Used → List ℕ → RowsOf A → Outcome A → Visit → List ℕ → Type 0
 Visited text room u before rowsOf o r after = VisitedIn text room u before (λ _. rowsOf) o r after
 
--- The rows of each value. A FreeText's has its quote's place in the fifth word, until the strings are laid down.
-abbrev pub DosageRows : RowsOf P.Dosage
-DosageRows d at chunk = chunk ≡ rows (allWords (dosageRow d ∷ []))
-
 -- An application: at a time where `timed`, else in a segment of the day.
 abbrev pub anApplication : Bool → Family
 anApplication true = anAtTime
 anApplication false = anInSegment
+
+-- The field that only one of them has: dt, or s.
+abbrev pub ownField : Bool → Place → Found Value → Left → Outcome ℕ
+ownField true p f l = needed (aString time) p f l
+ownField false p f l = needed (aNumber (integer 1 4)) p f l
+
+abbrev pub ReadsOwn : Bool → List ℕ → ℕ → ℕ → Field → Type 0
+ReadsOwn timed text brace v r = (f : Found Value) → Slot text v f → (l : Left) → Reads text (ownField timed (drop brace text) f l) l r
+
+-- The rows of each value. A FreeText's has its quote's place in the fifth word, until the strings are laid down.
+abbrev pub DosageRows : RowsOf P.Dosage
+DosageRows d at chunk = chunk ≡ rows (allWords (dosageRow d ∷ []))
 
 abbrev pub applicationsRows : (timed : Bool) → List (OfFamily (anApplication timed)) → List Record
 applicationsRows true ts = timesRows ts []
@@ -74,14 +82,6 @@ ApplicationsRows timed as′ at chunk = chunk ≡ rows (allWords (applicationsRo
 
 abbrev pub ApplicationRows : (timed : Bool) → RowsOf (OfFamily (anApplication timed))
 ApplicationRows timed a at chunk = ApplicationsRows timed (a ∷ []) at chunk
-
--- The field that only one of them has: dt, or s.
-abbrev pub ownField : Bool → Place → Found Value → Left → Outcome ℕ
-ownField true p f l = needed (aString time) p f l
-ownField false p f l = needed (aNumber (integer 1 4)) p f l
-
-abbrev pub ReadsOwn : Bool → List ℕ → ℕ → ℕ → Field → Type 0
-ReadsOwn timed text brace v r = (f : Found Value) → Slot text v f → (l : Left) → Reads text (ownField timed (drop brace text) f l) l r
 
 abbrev pub TimedRows : RowsOf P.Timed
 TimedRows td at chunk = chunk ≡ rows (allWords (timedRows td []))

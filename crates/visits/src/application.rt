@@ -20,7 +20,7 @@ ghost use lib.ListN.{length};
 ghost use Rattle.visits.specs.Visiting.{Ready, anApplication, ApplicationRows, ApplicationsRows, ReadsOwn, VisitsObject, VisitsEach};
 ghost use Rattle.visits.specs.Kept.{Kept};
 
-// The first of two names, or the second.
+// The name that only one of two objects read alike has.
 pub(crate) fn name_of(first: bool, a: usize, b: usize) -> usize
     ensures { λ r. ⌜ r ≡ cond first a b ⌝ }
 {
@@ -30,17 +30,16 @@ pub(crate) fn name_of(first: bool, a: usize, b: usize) -> usize
     b
 }
 
-// The same of two tags.
-pub(crate) fn tag_of(first: bool, a: u64, b: u64) -> u64
-    ensures { λ r. ⌜ r ≡ cond first a b ⌝ }
+fn tag_of(timed: bool) -> u64
+    ensures { λ r. ⌜ r ≡ cond timed 17 18 ⌝ }
 {
-    if first {
-        return a;
+    if timed {
+        return 17;
     }
-    b
+    18
 }
 
-// The time of day, or the segment.
+// The time of day, or the segment of the day.
 fn own_field(text: &[u8], at: usize, v: usize, timed: bool) -> Field
     ensures { λ r. ⌜ (at ≤ length (now (text .entry)) → ReadsOwn timed (now (text .entry)) at v r) ⌝ }
 {
@@ -76,7 +75,7 @@ fn read_application(text: &[u8], at: usize, timed: bool, used: Used, words: &mut
     let Field::Is(n) = f else {
         return up(f);
     };
-    rows::above(words, used, done, tag_of(timed, 17, 18), n, 0, 0, 0)
+    rows::above(words, used, done, tag_of(timed), n, 0, 0, 0)
 }
 
 // The applications of the list at `at`. Each takes a record, so there are never more than those left.

@@ -1,7 +1,6 @@
 // Timed dosages (document 01, "Objects": DosageOnly to Interval).
 use crate::application;
 use crate::application::name_of;
-use crate::application::tag_of;
 use crate::dosage;
 use fields::days;
 use fields::field;
@@ -79,19 +78,13 @@ fn dosage_only(text: &[u8], at: usize, o: Opened, used: Used, words: &mut [u64])
     rows::above(words, used, done, 6, 0, 0, 0, 0)
 }
 
-// Times, or DaySegments.
-fn applications(
-    text: &[u8],
-    at: usize,
-    o: Opened,
-    timed: bool,
-    used: Used,
-    words: &mut [u64],
-) -> Visit
-    requires { ⌜ Ready (now words) used × (used .records < 64) × (at ≤ length (now text)) ⌝ }
-    ensures { λ r. ⌜ ((ts : List ℕ) → VisitsBody (aTimed ts) (cond timed 2 3) TimedRows (now (text .entry)) at o used (now (words .entry)) r (now (words .exit))) ⌝ }
+// Times and DaySegments, types 2 and 3. A timed dosage's tag is its type and 5.
+fn applications(text: &[u8], at: usize, o: Opened, used: Used, words: &mut [u64]) -> Visit
+    requires { ⌜ Ready (now words) used × (used .records < 64) × (at ≤ length (now text)) × (2 ≤ o .kind) × (o .kind ≤ 3) ⌝ }
+    ensures { λ r. ⌜ ((ts : List ℕ) → VisitsBody (aTimed ts) (o .kind) TimedRows (now (text .entry)) at o used (now (words .entry)) r (now (words .exit))) ⌝ }
     ensures { λ r. ⌜ Kept 1 (now (words .entry)) used r (now (words .exit)) ⌝ }
 {
+    let timed = o.kind == 2;
     let slots = o.slots;
     let own = name_of(timed, TS, SS);
     let known = [T, own];
@@ -106,7 +99,7 @@ fn applications(
     let Visit::Done(done) = r else {
         return r;
     };
-    rows::above(words, used, done, tag_of(timed, 7, 8), 0, 0, 0, 0)
+    rows::above(words, used, done, o.kind + 5, 0, 0, 0, 0)
 }
 
 fn interval(text: &[u8], at: usize, o: Opened, used: Used, words: &mut [u64]) -> Visit
@@ -139,12 +132,10 @@ fn plain_timed(text: &[u8], at: usize, o: Opened, used: Used, words: &mut [u64])
     ensures { λ r. ⌜ ((ts : List ℕ) → VisitsBody (aTimed ts) (o .kind) TimedRows (now (text .entry)) at o used (now (words .entry)) r (now (words .exit))) ⌝ }
     ensures { λ r. ⌜ Kept 1 (now (words .entry)) used r (now (words .exit)) ⌝ }
 {
-    let kind = o.kind;
-    match kind {
-        1 => dosage_only(text, at, o, used, words),
-        2 => applications(text, at, o, true, used, words),
-        _ => applications(text, at, o, false, used, words),
+    if o.kind == 1 {
+        return dosage_only(text, at, o, used, words);
     }
+    applications(text, at, o, used, words)
 }
 
 // A timed dosage under WeekDays or DaysOfMonth.
@@ -174,12 +165,13 @@ fn days_of(text: &[u8], at: usize, v: usize, week: bool) -> Field
     days::month_days(text, at, v)
 }
 
-// WeekDays, or DaysOfMonth.
-fn on_days(text: &[u8], at: usize, o: Opened, week: bool, used: Used, words: &mut [u64]) -> Visit
-    requires { ⌜ Ready (now words) used × (used .records < 64) × (at ≤ length (now text)) ⌝ }
-    ensures { λ r. ⌜ ((ts : List ℕ) → VisitsBody (aTimed ts) (cond week 4 5) TimedRows (now (text .entry)) at o used (now (words .entry)) r (now (words .exit))) ⌝ }
+// WeekDays and DaysOfMonth, types 4 and 5.
+fn on_days(text: &[u8], at: usize, o: Opened, used: Used, words: &mut [u64]) -> Visit
+    requires { ⌜ Ready (now words) used × (used .records < 64) × (at ≤ length (now text)) × (4 ≤ o .kind) × (o .kind ≤ 5) ⌝ }
+    ensures { λ r. ⌜ ((ts : List ℕ) → VisitsBody (aTimed ts) (o .kind) TimedRows (now (text .entry)) at o used (now (words .entry)) r (now (words .exit))) ⌝ }
     ensures { λ r. ⌜ Kept 1 (now (words .entry)) used r (now (words .exit)) ⌝ }
 {
+    let week = o.kind == 4;
     let slots = o.slots;
     let own = name_of(week, WDS, DOMS);
     let known = [T, own, TDO];
@@ -194,7 +186,7 @@ fn on_days(text: &[u8], at: usize, o: Opened, week: bool, used: Used, words: &mu
     let Visit::Done(done) = r else {
         return r;
     };
-    rows::above(words, used, done, tag_of(week, 9, 10), set, 0, 0, 0)
+    rows::above(words, used, done, o.kind + 5, set, 0, 0, 0)
 }
 
 // The timed dosage that must stand at v in the object at `brace`, under this parent.
@@ -218,11 +210,11 @@ pub(crate) fn read_timed(
     if o.refused {
         return Visit::Refused(o.number, o.place);
     }
-    let kind = o.kind;
-    match kind {
-        4 => on_days(text, at, o, true, used, words),
-        5 => on_days(text, at, o, false, used, words),
-        6 => interval(text, at, o, used, words),
-        _ => plain_timed(text, at, o, used, words),
+    if o.kind <= 3 {
+        return plain_timed(text, at, o, used, words);
     }
+    if o.kind <= 5 {
+        return on_days(text, at, o, used, words);
+    }
+    interval(text, at, o, used, words)
 }

@@ -1,37 +1,14 @@
--- The code's tests are the rows of the table `is8ToB`.
-use Rattle.json.specs.Byte.{is8ToB}
-use Rattle.json.proofs.Rows.{rows}
+-- By what the digit counts.
+use borrow.Author.Needs.{needs}
+use Rattle.scan.proofs.Digits.{to-b-counts}
 use Rattle.scan.proofs.byte.is_8_to_b.Statement.{statement}
 use Rattle.scan.proofs.byte.is_8_to_b.Tie as tie
 
+digit-of-requires : tie.Need-digit-of-requires
+digit-of-requires c κs = search needs
+
 returns : tie.Need-returns
-unfolding is8ToB
-returns c = search rows depth 20
-
-returns-2 : tie.Need-returns-2
-unfolding is8ToB
-returns-2 c = search rows depth 20
-
-returns-3 : tie.Need-returns-3
-unfolding is8ToB
-returns-3 c = search rows depth 20
-
-returns-4 : tie.Need-returns-4
-unfolding is8ToB
-returns-4 c = search rows depth 20
-
-returns-5 : tie.Need-returns-5
-unfolding is8ToB
-returns-5 c = search rows depth 20
-
-returns-6 : tie.Need-returns-6
-unfolding is8ToB
-returns-6 c = search rows depth 20
-
-returns-7 : tie.Need-returns-7
-unfolding is8ToB
-returns-7 c = search rows depth 20
+returns c = rw (c .digit-of .ensures .0) (to-b-counts (c .before .args .b) (search needs))
 
 pub is-8-to-b-spec : {M : Type 1} → statement M
-is-8-to-b-spec =
-    tie.close (tie.spec returns returns-2 returns-3 returns-4 returns-5 returns-6 returns-7)
+is-8-to-b-spec = tie.close (tie.spec digit-of-requires returns)

@@ -1,28 +1,14 @@
--- The code's tests are the rows of the table `isD`.
-use Rattle.json.specs.Byte.{isD}
-use Rattle.json.proofs.Rows.{rows}
+-- By what the digit counts.
+use borrow.Author.Needs.{needs}
+use Rattle.scan.proofs.Digits.{d-counts}
 use Rattle.scan.proofs.byte.is_d.Statement.{statement}
 use Rattle.scan.proofs.byte.is_d.Tie as tie
 
+digit-of-requires : tie.Need-digit-of-requires
+digit-of-requires c κs = search needs
+
 returns : tie.Need-returns
-unfolding isD
-returns c = search rows depth 20
-
-returns-2 : tie.Need-returns-2
-unfolding isD
-returns-2 c = search rows depth 20
-
-returns-3 : tie.Need-returns-3
-unfolding isD
-returns-3 c = search rows depth 20
-
-returns-4 : tie.Need-returns-4
-unfolding isD
-returns-4 c = search rows depth 20
-
-returns-5 : tie.Need-returns-5
-unfolding isD
-returns-5 c = search rows depth 20
+returns c = rw (c .digit-of .ensures .0) (d-counts (c .before .args .b) (search needs))
 
 pub is-d-spec : {M : Type 1} → statement M
-is-d-spec = tie.close (tie.spec returns returns-2 returns-3 returns-4 returns-5)
+is-d-spec = tie.close (tie.spec digit-of-requires returns)
