@@ -95,14 +95,12 @@ fn days_field(text: &[u8], brace: usize, v: usize, most: u64) -> Field
     }
 }
 
-pub fn week_days(text: &[u8], brace: usize, v: usize) -> Field
-    ensures { λ r. ⌜ (brace ≤ length (now (text .entry)) → ReadsDays (now (text .entry)) brace v 7 r) ⌝ }
+// The days of a week, or of a month.
+pub fn days_of(text: &[u8], brace: usize, v: usize, week: bool) -> Field
+    ensures { λ r. ⌜ (brace ≤ length (now (text .entry)) → ReadsDays (now (text .entry)) brace v (cond week 7 28) r) ⌝ }
 {
-    days_field(text, brace, v, 7)
-}
-
-pub fn month_days(text: &[u8], brace: usize, v: usize) -> Field
-    ensures { λ r. ⌜ (brace ≤ length (now (text .entry)) → ReadsDays (now (text .entry)) brace v 28 r) ⌝ }
-{
+    if week {
+        return days_field(text, brace, v, 7);
+    }
     days_field(text, brace, v, 28)
 }

@@ -26,14 +26,12 @@ use records::rows::Visit;
 use records::rows::up;
 use records::rows::up_found;
 ghost use mathlib.Core.List.{List};
-ghost use mathlib.Core.Bool.{cond};
 ghost use Prim.Native.Nat.{ℕ, _≤_, _<_};
 ghost use lib.ListN.{length};
 ghost use Rattle.json.specs.Tree.{Place, Members, object};
 ghost use Rattle.document.specs.Schema.{aTimed, underDays};
 ghost use Rattle.document.specs.Visit.{entriesOf};
 ghost use Rattle.document.specs.At.{At};
-ghost use Rattle.fields.specs.Dates.{ReadsDays};
 ghost use Rattle.records.specs.Under.{typesUnder};
 ghost use Rattle.visits.specs.Visiting.{Ready, TimedRows, OpensUnder, VisitsBody, VisitsNeeded};
 ghost use Rattle.visits.specs.Kept.{Kept, Stands};
@@ -155,16 +153,6 @@ fn read_under_days(text: &[u8], brace: usize, v: usize, used: Used, words: &mut 
     plain_timed(text, at, o, used, words)
 }
 
-// The days of a week, or of a month.
-fn days_of(text: &[u8], at: usize, v: usize, week: bool) -> Field
-    ensures { λ r. ⌜ (at ≤ length (now (text .entry)) → ReadsDays (now (text .entry)) at v (cond week 7 28) r) ⌝ }
-{
-    if week {
-        return days::week_days(text, at, v);
-    }
-    days::month_days(text, at, v)
-}
-
 // WeekDays and DaysOfMonth, types 4 and 5.
 fn on_days(text: &[u8], at: usize, o: Opened, used: Used, words: &mut [u64]) -> Visit
     requires { ⌜ Ready (now words) used × (used .records < 64) × (at ≤ length (now text)) × (4 ≤ o .kind) × (o .kind ≤ 5) ⌝ }
@@ -178,7 +166,7 @@ fn on_days(text: &[u8], at: usize, o: Opened, used: Used, words: &mut [u64]) -> 
     if let Unknown::At(q) = names::unknown_name(text, at, o.members, slots, &known) {
         return Visit::Refused(5, q);
     }
-    let f = days_of(text, at, slots[own], week);
+    let f = days::days_of(text, at, slots[own], week);
     let Field::Is(set) = f else {
         return up(f);
     };
