@@ -7,6 +7,7 @@ use native.Mathlib.Omega.{arith}
 use lib.ListN.{length, drop, length-append}
 use lib.Seq.{sets, length-sets}
 use Rattle.json.specs.Byte.{blanked, isBlank}
+use Rattle.json.proofs.Stores.{sets-append}
 use Rattle.json.specs.Tree.{Place, Moves, Tree, list, Elements, noElement, element}
 use Rattle.json.specs.Grammar.{Value, anEmptyList, aList, Listed, first, Behind, bracket, nextElement}
 use Rattle.moving.specs.Moving.{firstIn, overComma, nextAfter, atEnd, closes}
@@ -20,7 +21,6 @@ use Rattle.visits.specs.Visiting.{leftOf, RowsOf, RowsIn, Did, VisitedIn
 use Rattle.records.specs.declared.rows.Used.{Used}
 use Rattle.records.specs.declared.rows.Visit.{Visit}
 use Rattle.records.specs.declared.rows.Visit.the-variants.{Done, Refused}
-use Rattle.visits.proofs.Rowed.{sets-behind}
 use Rattle.visits.proofs.Bodies.{refuses-as, refuses-bind, done-bind}
 
 pub absurd-bool : {A : Type 0} → true ≡ false → A
@@ -98,7 +98,7 @@ module _ (text : List ℕ) (room : ℕ) (s : Shape) (all : RowsIn (List (Of s)))
         words =
             k .words ∙ ap (λ m. sets m (6 * u′ .records) (k .chunk)) (d .words)
             ∙ ap (λ n. sets (sets before (6 * u .records) (d .chunk)) n (k .chunk)) (omega (arith, d .size))
-            ∙ sets-behind (d .chunk) before (6 * u .records) (k .chunk);
+            ∙ sym (sets-append (d .chunk) (k .chunk) before (6 * u .records));
         size = omega (arith, d .size, k .size, length-append (d .chunk) (k .chunk));
         few = k .few;
         more = omega (arith, d .more, k .more);

@@ -3,9 +3,8 @@ use Prim.Native.Nat.{ℕ, zero, suc, _+_, _*_, _<_, _≤_}
 use mathlib.Core.Path.{_≡_, refl, ap, sym, _∙_, subst}
 use mathlib.Core.List.{List, [], _∷_, _++_}
 use native.Mathlib.Omega.{arith}
-use native.Mathlib.Nat.{not-suc-le-zero}
 use lib.ListN.{length, set}
-use lib.Seq.{sets}
+use lib.Seq.{sets, set-comm}
 use Rattle.document.specs.Visit.{Outcome, done}
 use Rattle.document.specs.Words.{Words, row, rows}
 use Rattle.fields.specs.Fields.{Refuses}
@@ -17,22 +16,10 @@ use Rattle.records.specs.declared.rows.Visit.{Visit}
 use Rattle.records.specs.declared.rows.Visit.the-variants.{Done, Refused}
 
 -- Stores at two places may be done in either order.
-set-before : (l : List ℕ) (i j a b : ℕ) → i < j → set (set l j b) i a ≡ set (set l i a) j b
-set-before [] i j a b h = refl
-set-before (x ∷ xs) i zero a b h = absurd (not-suc-le-zero h)
-set-before (x ∷ xs) zero (suc j) a b h = refl
-set-before (x ∷ xs) (suc i) (suc j) a b h = ap (λ r. x ∷ r) (set-before xs i j a b (omega arith))
-
 set-before-sets : (ys l : List ℕ) (i j a : ℕ) → i < j → set (sets l j ys) i a ≡ sets (set l i a) j ys
 set-before-sets [] l i j a h = refl
 set-before-sets (y ∷ ys) l i j a h =
-    set-before-sets ys (set l j y) i (suc j) a (omega arith) ∙ ap (λ r. sets r (suc j) ys) (set-before l i j a y h)
-
--- Stored behind, and stored before.
-pub sets-behind : (xs l : List ℕ) (k : ℕ) (ys : List ℕ) → sets (sets l k xs) (k + length xs) ys ≡ sets l k (xs ++ ys)
-sets-behind [] l k ys = ap (λ n. sets l n ys) (omega arith)
-sets-behind (x ∷ xs) l k ys =
-    ap (λ n. sets (sets (set l k x) (suc k) xs) n ys) (omega arith) ∙ sets-behind xs (set l k x) (suc k) ys
+    set-before-sets ys (set l j y) i (suc j) a (omega arith) ∙ ap (λ r. sets r (suc j) ys) (set-comm l j i y a λ e. absurd (omega arith))
 
 pub sets-before : (xs l : List ℕ) (k : ℕ) (ys : List ℕ) → sets (sets l (k + length xs) ys) k xs ≡ sets l k (xs ++ ys)
 sets-before [] l k ys = ap (λ n. sets l n ys) (omega arith)
