@@ -3,11 +3,11 @@ use Prim.Native.Nat.{ℕ, zero, suc, _+_, _-_, _<_, _≤_}
 use mathlib.Core.Path.{_≡_, refl, sym, ap, _∙_}
 use mathlib.Core.Logic.{inl, inr}
 use mathlib.Core.List.{List, [], _∷_}
-use mathlib.Core.Bool.{Bool, true, false, _&&_, _||_, false≢true}
-use lib.Dec.{leb}
+use mathlib.Core.Bool.{Bool, true, false, cond, _&&_, _||_, false≢true}
+use lib.Dec.{leb, ltb}
 use mir.Val.{hasKey}
 use types.Run.{OneOf, hit as key-hit}
-use borrow.Author.Tests.{lt-ltb, le-ltb, leb-true}
+use borrow.Author.Tests.{lt-ltb, le-ltb, lt-leb, le-leb, leb-true}
 use native.Mathlib.Omega.{arith}
 use native.Mathlib.Decide.{decLt}
 use Rattle.json.proofs.Truth.{and-left, and-right}
@@ -27,6 +27,22 @@ module _ (A : Type 0) where
   pub last : (b : ℕ) (a : A) → a ≡ look b (else a)
   unfolding look
   last b a = refl
+
+-- rows that a single test tells apart
+pub whether-below : (n b : ℕ) → ltb b n ≡ look b (below n true (else false))
+unfolding look
+whether-below n b = by (ltb b n)
+  where
+    by : (t : Bool) → t ≡ cond t true false
+    by true = refl
+    by false = refl
+
+pub whether-from : (n b : ℕ) → leb n b ≡ look b (below n false (else true))
+unfolding look
+whether-from n b = elim (decLt b n) [
+  | yes l ↦ rw (lt-leb n b l, lt-ltb b n l)
+  | no g ↦ let l : n ≤ b = omega arith in rw (le-leb n b l, le-ltb b n l)
+]
 
 pub ruleset rows = (hit, miss, last, arith)
 

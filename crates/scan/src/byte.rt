@@ -21,10 +21,7 @@ pub fn within(lo: u8, hi: u8, b: u8) -> bool
     if b < lo {
         return false;
     }
-    if b < hi {
-        return true;
-    }
-    false
+    b < hi
 }
 
 pub fn is_hex(b: u8) -> bool
