@@ -2,17 +2,16 @@
 use Prim.Native.Nat.{ℕ, _≤_, _<_, _%_, _^_}
 use mathlib.Core.Path.{_≡_}
 use mathlib.Core.List.{List}
-use mathlib.Core.Bool.{true, not, _&&_}
+use mathlib.Core.Bool.{true, _&&_}
 use native.Mathlib.Nat.{mod-eq-of-lt}
 use native.Mathlib.Omega.{arith}
 use lib.Pow.{pow-mono}
 use lib.Dec.{leb}
 use Rattle.document.specs.Schema.{greatestInteger}
 use Rattle.document.specs.Table.{daySet}
-use Rattle.document.specs.Visit.{isEmpty}
-use Rattle.document.specs.Valid.{isDuration, isTimeUnit, climbs, isDays}
-use Rattle.json.proofs.Truth.{and-right}
+use Rattle.document.specs.Valid.{isDuration, isTimeUnit, isDays}
 use Rattle.document.proofs.Ranges.{in-range}
+use Rattle.document.proofs.Days.{days-climb}
 use Rattle.document.proofs.DaySets.{days-small}
 
 pub duration-carried : (n : ℕ) → isDuration n ≡ true → n % 0x100000000 ≡ n
@@ -26,6 +25,6 @@ small-carried s hi k h = mod-eq-of-lt (omega (arith, in-range 1 s hi h))
 
 pub days-carried : (hi : ℕ) (ds : List ℕ) → hi ≤ 28 → isDays hi ds ≡ true → daySet ds % 0x100000000 ≡ daySet ds
 days-carried hi ds h k =
-    let small = days-small 0 hi ds (omega arith) (and-right (not (isEmpty ds)) (climbs 0 hi ds) k) in
+    let small = days-small 0 hi ds (omega arith) (days-climb hi ds k) in
     let most : 2 ^ hi ≤ 2 ^ 28 = pow-mono h in
     mod-eq-of-lt (omega arith)

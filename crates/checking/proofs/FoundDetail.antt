@@ -1,7 +1,7 @@
 -- Words of a valid value are found right: details and the objects of a sequence.
 use mathlib.Core.Path.{_≡_, refl, ap, sym, subst, _∙_}
 use mathlib.Core.List.{List, [], _∷_, _++_}
-use mathlib.Core.Bool.{true, not, _&&_, false≢true}
+use mathlib.Core.Bool.{true, false, true≢false, false≢true}
 use Prim.Native.Nat.{ℕ, zero, suc, _+_, _-_, _≤_}
 use native.Mathlib.Omega.{arith}
 use lib.ListN.{length, take, drop, length-append, length-drop}
@@ -12,7 +12,7 @@ use Rattle.document.specs.Posology.{Detail, SequenceObject, SequenceObjects}
 use Rattle.document.specs.Schema.{underSingle, underCyclic}
 use Rattle.document.specs.Visit.{isEmpty}
 use Rattle.document.specs.Utf8.{isUtf8}
-use Rattle.document.specs.Valid.{isAmount, isTimeUnit, isDuration, validTimed, validDetail, validObject, validObjects, someObject, timedRecords, detailRecords, objectRecords, objectsRecords, detailStrings, objectStrings, objectsStrings}
+use Rattle.document.specs.Valid.{validDetail, validObject, validObjects, someObject, timedRecords, detailRecords, objectRecords, objectsRecords, detailStrings, objectStrings, objectsStrings}
 use Rattle.document.specs.Table.{row, detailRows, objectRows, objectsRows}
 use Rattle.document.specs.Words.{recordWords, allWords}
 use Rattle.document.specs.declared.table.Record.{Record}
@@ -20,8 +20,8 @@ use Rattle.document.specs.declared.table.Kind.the-variants as K
 use Rattle.words.specs.Standing.{belowAt, bAt, At, Lies}
 use Rattle.doses.proofs.Lies.{moved}
 use Rattle.document.proofs.Ranges.{in-range}
+use Rattle.document.proofs.DetailParts.{daily-parts, text-parts, cyclic-parts, sequence-parts, posology-sequence-parts, pause-parts, objects-parts}
 use Rattle.document.proofs.Untables.{joined-append}
-use Rattle.json.proofs.Truth.{and-left, and-right}
 use Rattle.doses.proofs.Decided.{same-parent}
 use Rattle.doses.proofs.Found.{timed-found, lets-single, lets-cyclic}
 use Rattle.doses.specs.Doses.{daily, single, cyclic}
@@ -57,8 +57,8 @@ pub record FoundObjects (ws buffer : List ℕ) (os : SequenceObjects) (left end 
 tail-starts : (o : SequenceObject) (left i text v : ℕ) → text + length (objectStrings o []) ≡ v + length {A = ℕ} [] → text + length (objectStrings o []) ≡ v
 tail-starts o left i text v e = omega arith
 
-pub not-none : (cs : List ℕ) → not (isEmpty cs) ≡ true → 1 ≤ length cs
-not-none [] e = absurd (false≢true e)
+pub not-none : (cs : List ℕ) → isEmpty cs ≡ false → 1 ≤ length cs
+not-none [] e = absurd (true≢false e)
 not-none (c ∷ cs) e = omega arith
 
 some-records : (os : SequenceObjects) → someObject os ≡ true → 1 ≤ objectsRecords os
@@ -71,12 +71,11 @@ module _ {ws buffer : List ℕ} where
   daily-found : (a b c d left i text : ℕ) (k : List Record) (rest : List ℕ) → validDetail (P.daily a b c d) left ≡ true → Lies ws i (allWords (detailRows (P.daily a b c d) text k)) → drop text buffer ≡ rest → text ≤ length buffer → FoundDetail ws buffer (P.daily a b c d) left i text k rest
   unfolding validDetail detailRows detailRecords detailStrings
   daily-found a b c d left i text k rest v l e m =
-      let v₁ = and-left (isAmount a && isAmount b && isAmount c) (isAmount d) v in
-      let v₂ = and-left (isAmount a && isAmount b) (isAmount c) v₁ in
-      let ha : a ≤ 999999999999 = leb-true a 999999999999 (and-left (isAmount a) (isAmount b) v₂) in
-      let hb : b ≤ 999999999999 = leb-true b 999999999999 (and-right (isAmount a) (isAmount b) v₂) in
-      let hc : c ≤ 999999999999 = leb-true c 999999999999 (and-right (isAmount a && isAmount b) (isAmount c) v₁) in
-      let hd : d ≤ 999999999999 = leb-true d 999999999999 (and-right (isAmount a && isAmount b && isAmount c) (isAmount d) v) in
+      let w = daily-parts a b c d left v in
+      let ha : a ≤ 999999999999 = leb-true a 999999999999 (w .morning) in
+      let hb : b ≤ 999999999999 = leb-true b 999999999999 (w .noon) in
+      let hc : c ≤ 999999999999 = leb-true c 999999999999 (w .evening) in
+      let hd : d ≤ 999999999999 = leb-true d 999999999999 (w .night) in
       let p = l .0 in
       record { taken = text; at = still (daily (record { inside = p .inside; tag = p .tag; below-least = omega arith; below-most = omega arith; a-least = omega arith; a-most = omega arith; b-least = omega arith; b-most = omega arith; c-least = omega arith; c-most = omega arith; d-least = omega arith; d-most = omega arith })) refl; count = omega arith; lies = l .1; behind = e; most = m; sum = λ s. refl }
 
@@ -84,14 +83,15 @@ module _ {ws buffer : List ℕ} where
   unfolding validDetail detailRows detailRecords detailStrings
   free-found cs left i text k rest v l e m =
       let p = l .0 in
-      let g = not-none cs (and-left (not (isEmpty cs)) (isUtf8 cs) v) in
+      let w = text-parts cs v in
+      let g = not-none cs (w .some) in
       let e′ : drop text buffer ≡ cs ++ rest = e ∙ joined-append cs rest in
       let j : length buffer - text ≡ length cs + length rest = sym (length-drop text buffer) ∙ ap length e′ ∙ length-append cs rest in
       let t : take (bAt ws i) (drop text buffer) ≡ cs = ap (take (bAt ws i)) e′ ∙ take-at cs rest (bAt ws i) (sym (p .b)) in
       let z : text + length cs ≡ text + bAt ws i = omega arith in
       record {
         taken = text + length cs;
-        at = freeText (record { room = m; row = record { inside = p .inside; tag = p .tag; below-least = omega arith; below-most = omega arith; a-least = omega arith; a-most = omega arith; b-least = omega arith; b-most = omega arith; c-least = omega arith; c-most = omega arith; d-least = omega arith; d-most = omega arith }; utf8 = ap isUtf8 t ∙ and-right (not (isEmpty cs)) (isUtf8 cs) v }) z;
+        at = freeText (record { room = m; row = record { inside = p .inside; tag = p .tag; below-least = omega arith; below-most = omega arith; a-least = omega arith; a-most = omega arith; b-least = omega arith; b-most = omega arith; c-least = omega arith; c-most = omega arith; d-least = omega arith; d-most = omega arith }; utf8 = ap isUtf8 t ∙ w .utf8 }) z;
         count = omega arith;
         lies = l .1;
         behind = sym (drop-drop (length cs) text buffer) ∙ ap (drop (length cs)) e′ ∙ drop-at cs rest (length cs) refl;
@@ -112,15 +112,11 @@ module _ {ws buffer : List ℕ} where
   unfolding validDetail detailRows detailRecords detailStrings
   cyclic-found u du per td left i text k rest v f l e m =
       let p = l .0 in
-      let v₁ = and-left (isTimeUnit u && isDuration du && validTimed td (underCyclic u)) (isDuration per) v in
-      let v₂ = and-left (isTimeUnit u && isDuration du) (validTimed td (underCyclic u)) v₁ in
-      let w = and-right (isTimeUnit u && isDuration du && validTimed td (underCyclic u)) (isDuration per) v in
-      let x = and-left (isTimeUnit u) (isDuration du) v₂ in
-      let y = and-right (isTimeUnit u) (isDuration du) v₂ in
-      let u-in = in-range 1 u 7 x in
-      let du-in = in-range 1 du 99999 y in
-      let per-in = in-range 1 per 99999 w in
-      let r = timed-found td (underCyclic u) u k (lets-cyclic u (u-in .0)) (and-right (isTimeUnit u && isDuration du) (validTimed td (underCyclic u)) v₁) (omega arith) (l .1) in
+      let w = cyclic-parts u du td per left v in
+      let u-in = in-range 1 u 7 (w .unit) in
+      let du-in = in-range 1 du 99999 (w .duration) in
+      let per-in = in-range 1 per 99999 (w .per) in
+      let r = timed-found td (underCyclic u) u k (lets-cyclic u (u-in .0)) (w .timed) (omega arith) (l .1) in
       let c = r .1 .0 in
       let n : i + 1 + timedRecords td ≡ i + (1 + timedRecords td) = omega arith in
       record { taken = text; at = still (cyclic (record { row = record { inside = p .inside; tag = p .tag; below-least = omega arith; below-most = omega arith; a-least = omega arith; a-most = omega arith; b-least = omega arith; b-most = omega arith; c-least = omega arith; c-most = omega arith; d-least = omega arith; d-most = omega arith }; inner = same-parent (sym (p .a)) (r .0); nested = omega arith })) refl; count = omega arith; lies = moved ws (allWords k) n (r .1 .1); behind = e; most = m; sum = λ s. refl }
@@ -129,20 +125,17 @@ module _ {ws buffer : List ℕ} where
   unfolding validDetail detailRows detailRecords detailStrings
   pause-found du u left i text k rest v l e m =
       let p = l .0 in
-      let x = and-left (isDuration du) (isTimeUnit u) v in
-      let y = and-right (isDuration du) (isTimeUnit u) v in
-      let du-in = in-range 1 du 99999 x in
-      let u-in = in-range 1 u 7 y in
+      let w = pause-parts du u left v in
+      let du-in = in-range 1 du 99999 (w .duration) in
+      let u-in = in-range 1 u 7 (w .unit) in
       record { taken = text; at = pause (record { inside = p .inside; tag = p .tag; below-least = omega arith; below-most = omega arith; a-least = omega arith; a-most = omega arith; b-least = omega arith; b-most = omega arith; c-least = omega arith; c-most = omega arith; d-least = omega arith; d-most = omega arith }) refl; count = omega arith; lies = l .1; behind = e; most = m; sum = λ s. refl }
 
   posology-found : (du u : ℕ) (po : Detail) (left i text : ℕ) (k : List Record) (rest : List ℕ) → validObject (P.posologySequence du u po) left ≡ true → i + objectRecords (P.posologySequence du u po) ≤ 64 → At ws i (recordWords (row (K.PosologySequence du u) (detailRecords po))) → FoundDetail ws buffer po left (i + 1) text k rest → FoundObject ws buffer (P.posologySequence du u po) left i text k rest
   unfolding validDetail detailRows detailRecords detailStrings
   posology-found du u po left i text k rest v f p r =
-      let v₁ = and-left (isDuration du && isTimeUnit u) (validDetail po left) v in
-      let x = and-left (isDuration du) (isTimeUnit u) v₁ in
-      let y = and-right (isDuration du) (isTimeUnit u) v₁ in
-      let du-in = in-range 1 du 99999 x in
-      let u-in = in-range 1 u 7 y in
+      let w = posology-sequence-parts du u po left v in
+      let du-in = in-range 1 du 99999 (w .duration) in
+      let u-in = in-range 1 u 7 (w .unit) in
       let c = r .count in
       let n : i + 1 + detailRecords po ≡ i + (1 + detailRecords po) = omega arith in
       record { taken = r .taken; at = posology (record { inside = p .inside; tag = p .tag; below-least = omega arith; below-most = omega arith; a-least = omega arith; a-most = omega arith; b-least = omega arith; b-most = omega arith; c-least = omega arith; c-most = omega arith; d-least = omega arith; d-most = omega arith }) (r .at) (omega arith); count = omega arith; lies = moved ws (allWords k) n (r .lies); behind = r .behind; most = r .most; sum = r .sum }
@@ -178,17 +171,17 @@ module _ {ws buffer : List ℕ} where
     detail-found (P.cyclic u du td per) left i text k rest v f l e m = cyclic-found u du per td left i text k rest v f l e m
     detail-found (P.sequence os) zero i text k rest v f l e m = absurd (false≢true v)
     detail-found (P.sequence os) (suc left) i text k rest v f l e m =
-        let s = and-left (someObject os) (validObjects os left) v in
+        let w = sequence-parts os left v in
         let p = l .0 in
-        let h = some-records os s in
-        sequence-found os left i text k rest f h p (objects-found os left (i + 1 + belowAt ws i) (i + 1) text k rest s (and-right (someObject os) (validObjects os left) v) (omega arith) (omega arith) (l .1) e m)
+        let h = some-records os (w .some) in
+        sequence-found os left i text k rest f h p (objects-found os left (i + 1 + belowAt ws i) (i + 1) text k rest (w .some) (w .objects) (omega arith) (omega arith) (l .1) e m)
 
     pub object-found : (o : SequenceObject) (left i text : ℕ) (k : List Record) (rest : List ℕ) → validObject o left ≡ true → i + objectRecords o ≤ 64 → Lies ws i (allWords (objectRows o text k)) → drop text buffer ≡ objectStrings o rest → text ≤ length buffer → FoundObject ws buffer o left i text k rest
-    object-found (P.posologySequence du u po) left i text k rest v f l e m = posology-found du u po left i text k rest v f (l .0) (detail-found po left (i + 1) text k rest (and-right (isDuration du && isTimeUnit u) (validDetail po left) v) (omega arith) (l .1) e m)
+    object-found (P.posologySequence du u po) left i text k rest v f l e m = posology-found du u po left i text k rest v f (l .0) (detail-found po left (i + 1) text k rest (posology-sequence-parts du u po left v .detail) (omega arith) (l .1) e m)
     object-found (P.pause du u) left i text k rest v f l e m = pause-found du u left i text k rest v l e m
 
     objects-found : (os : SequenceObjects) (left end i text : ℕ) (k : List Record) (rest : List ℕ) → someObject os ≡ true → validObjects os left ≡ true → i + objectsRecords os ≡ end → end ≤ 64 → Lies ws i (allWords (objectsRows os text k)) → drop text buffer ≡ objectsStrings os rest → text ≤ length buffer → FoundObjects ws buffer os left end i text k rest
     objects-found P.noObject left end i text k rest s v g f l e m = absurd (false≢true s)
     objects-found (P.objectThen o os) left end i text k rest s v g f l e m =
-        let r = object-found o left i text (objectsRows os (text + length (objectStrings o [])) k) (objectsStrings os rest) (and-left (validObject o left) (validObjects os left) v) (omega arith) l e m in
-        join o os left end i text k rest g r (λ t. objects-found os left end (i + objectRecords o) (r .taken) k rest t (and-right (validObject o left) (validObjects os left) v) (omega arith) f (subst (λ x. Lies ws (i + objectRecords o) (allWords (objectsRows os x k))) (tail-starts o left i text (r .taken) (r .sum [])) (r .lies)) (r .behind) (r .most))
+        let r = object-found o left i text (objectsRows os (text + length (objectStrings o [])) k) (objectsStrings os rest) (objects-parts o os left v .first) (omega arith) l e m in
+        join o os left end i text k rest g r (λ t. objects-found os left end (i + objectRecords o) (r .taken) k rest t (objects-parts o os left v .rest) (omega arith) f (subst (λ x. Lies ws (i + objectRecords o) (allWords (objectsRows os x k))) (tail-starts o left i text (r .taken) (r .sum [])) (r .lies)) (r .behind) (r .most))

@@ -9,14 +9,14 @@ use lib.Dec.{eqb}
 use lib.ListN.{length, take, drop, length-append, length-drop, take-append-drop}
 use lib.Seq.{length-take-le, drop-drop, take-at, drop-at}
 use borrow.Author.Tests.{eqb-false, eqb-true}
-use Rattle.document.specs.Visit.{isEmpty}
 use Rattle.document.specs.Utf8.{isUtf8}
 use Rattle.document.specs.Valid.{isText, ifGiven, isUnitFor}
 use Rattle.document.specs.Table.{textCell, lengthOf}
 use Rattle.document.specs.declared.table.Text.{Text}
+use Rattle.document.proofs.DetailParts.{text-parts}
 use Rattle.document.proofs.Strings.{some-of-length}
 use Rattle.document.proofs.Untabled.{bytesOf}
-use Rattle.json.proofs.Truth.{and-left, and-right, and-both}
+use Rattle.json.proofs.Truth.{and-both}
 use Rattle.checking.proofs.FoundDetail.{not-none}
 use Rattle.checking.specs.Readable.{PieceAt, absent, present}
 
@@ -62,15 +62,16 @@ unit-for purpose (some cs) v f = v
 
 pub unit-given : (purpose at : ℕ) (v : Option (List ℕ)) → isUnitFor purpose v ≡ true → (purpose ≡ 3 → ⊥) → 1 ≤ textCell at v .len
 unit-given purpose at none h f = absurd (f (eqb-true purpose 3 h))
-unit-given purpose at (some cs) h f = not-none cs (and-left (not (isEmpty cs)) (isUtf8 cs) h)
+unit-given purpose at (some cs) h f = not-none cs (text-parts cs h .some)
 
 module _ (buffer : List ℕ) where
   pub piece-found : (v : Option (List ℕ)) (at : ℕ) (rest : List ℕ) → ifGiven isText v ≡ true → drop at buffer ≡ bytesOf v ++ rest → PieceAt buffer (textCell at v) at (at + lengthOf v)
   piece-found none at rest h e = absent refl refl (omega arith)
   piece-found (some cs) at rest h e =
-      let g = not-none cs (and-left (not (isEmpty cs)) (isUtf8 cs) h) in
+      let w = text-parts cs h in
+      let g = not-none cs (w .some) in
       let j : length buffer - at ≡ length cs + length rest = sym (length-drop at buffer) ∙ ap length e ∙ length-append cs rest in
-      present (record { starts = refl; some = g; fits = omega arith; utf8 = ap isUtf8 (ap (take (length cs)) e ∙ take-at cs rest (length cs) refl) ∙ and-right (not (isEmpty cs)) (isUtf8 cs) h }) refl
+      present (record { starts = refl; some = g; fits = omega arith; utf8 = ap isUtf8 (ap (take (length cs)) e ∙ take-at cs rest (length cs) refl) ∙ w .utf8 }) refl
 
   pub piece-behind : (v : Option (List ℕ)) (at : ℕ) (rest : List ℕ) → drop at buffer ≡ bytesOf v ++ rest → drop (at + lengthOf v) buffer ≡ rest
   piece-behind none at rest e = let z : at + 0 ≡ at = omega arith in ap (λ n. drop n buffer) z ∙ e

@@ -26,6 +26,7 @@ use Rattle.document.proofs.Good.{sum, validOf, recordsOf, textOf, Takes
 use Rattle.document.proofs.Days.{days-in-range, days-some}
 use Rattle.document.proofs.Makes.{takes-as}
 use Rattle.document.proofs.Sound.{good-free, numbers-take}
+use Rattle.document.proofs.DetailParts.{all-four}
 use Rattle.document.proofs.Parts.{Parts, GoodGiven, nothing-taken, opens, amount-of, dosage-parts, at-time-parts, in-segment-parts, timed-parts, detail-parts, object-parts, posology-parts}
 
 bind-to : {A B : Type 0} (r : Outcome A) (a : A) (l : Left) (f : A → Left → Outcome B) (z : Outcome B) → r ≡ done a l → f a l ≡ z → bind r f ≡ z
@@ -255,13 +256,11 @@ decimals-complete p (a ∷ []) (m₁ ∷ m₂ ∷ m₃ ∷ m₄ ∷ []) h x l l�
 decimals-complete p (a ∷ b ∷ []) (m₁ ∷ m₂ ∷ m₃ ∷ m₄ ∷ []) h x l l′ m g = absurd (h .1 .1)
 decimals-complete p (a ∷ b ∷ c ∷ []) (m₁ ∷ m₂ ∷ m₃ ∷ m₄ ∷ []) h x l l′ m g = absurd (h .1 .1 .1)
 decimals-complete p (a ∷ b ∷ c ∷ d ∷ []) (m₁ ∷ m₂ ∷ m₃ ∷ m₄ ∷ []) h x l l′ m g =
-    let v : (isAmount (x .morning) && isAmount (x .noon) && isAmount (x .evening) && isAmount (x .night)) ≡ true = g .valid in
-    let v₁ = and-left (isAmount (x .morning) && isAmount (x .noon) && isAmount (x .evening)) (isAmount (x .night)) v in
-    let v₂ = and-left (isAmount (x .morning) && isAmount (x .noon)) (isAmount (x .evening)) v₁ in
-    bind-to (a .read amount l) (x .morning) l _ (done x l′) (h .0 .read amount (x .morning) l l (m .0) (here (x .morning) (and-left (isAmount (x .morning)) (isAmount (x .noon)) v₂)))
-    (bind-to (b .read amount l) (x .noon) l _ (done x l′) (h .1 .0 .read amount (x .noon) l l (m .1 .0) (here (x .noon) (and-right (isAmount (x .morning)) (isAmount (x .noon)) v₂)))
-    (bind-to (c .read amount l) (x .evening) l _ (done x l′) (h .1 .1 .0 .read amount (x .evening) l l (m .1 .1 .0) (here (x .evening) (and-right (isAmount (x .morning) && isAmount (x .noon)) (isAmount (x .evening)) v₁)))
-    (bind-to (d .read amount l) (x .night) l _ (done x l′) (h .1 .1 .1 .0 .read amount (x .night) l l (m .1 .1 .1 .0) (here (x .night) (and-right (isAmount (x .morning) && isAmount (x .noon) && isAmount (x .evening)) (isAmount (x .night)) v)))
+    let v = all-four (isAmount (x .morning)) (isAmount (x .noon)) (isAmount (x .evening)) (isAmount (x .night)) (g .valid) in
+    bind-to (a .read amount l) (x .morning) l _ (done x l′) (h .0 .read amount (x .morning) l l (m .0) (here (x .morning) (v .0)))
+    (bind-to (b .read amount l) (x .noon) l _ (done x l′) (h .1 .0 .read amount (x .noon) l l (m .1 .0) (here (x .noon) (v .1)))
+    (bind-to (c .read amount l) (x .evening) l _ (done x l′) (h .1 .1 .0 .read amount (x .evening) l l (m .1 .1 .0) (here (x .evening) (v .2)))
+    (bind-to (d .read amount l) (x .night) l _ (done x l′) (h .1 .1 .1 .0 .read amount (x .night) l l (m .1 .1 .1 .0) (here (x .night) (v .3)))
     (done-both x x l l′ refl (nothing-taken l l′ (g .takes))))))
   where
     amount : Shape

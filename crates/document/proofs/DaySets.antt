@@ -1,19 +1,17 @@
 -- The days of a set come back from its bits.
 use mathlib.Core.Path.{_≡_, refl, ap, sym, subst, _∙_}
 use mathlib.Core.List.{List, [], _∷_}
-use mathlib.Core.Bool.{Bool, true, false, not}
+use mathlib.Core.Bool.{Bool, true, false}
 use Prim.Native.Nat.{ℕ, zero, suc, _+_, _*_, _-_, _/_, _%_, _^_, _≤_, _<_}
 use native.Mathlib.Omega.{arith}
 use native.Mathlib.Nat.{pow-succ'}
 use lib.Pow.{pow-mono}
 use lib.Dec.{eqb}
 use borrow.Author.Tests.{eq-eqb, ne-eqb, eqb-true, eqb-false}
-use Rattle.document.specs.Visit.{isEmpty}
 use Rattle.document.specs.Valid.{climbs, isDays}
 use Rattle.document.specs.Table.{daySet}
 use Rattle.document.specs.Untable.{keep, daysOf}
-use Rattle.json.proofs.Truth.{and-right}
-use Rattle.document.proofs.Days.{climbs-parts, climbs-more}
+use Rattle.document.proofs.Days.{climbs-parts, climbs-more, days-climb}
 
 -- The bits counted from a day on.
 abbrev pub from : ℕ → List ℕ → ℕ
@@ -76,7 +74,7 @@ from-one [] = refl
 from-one (d ∷ ds) = ap (λ (m : ℕ). 2 ^ (d - 1) + m) (from-one ds)
 
 pub set-back : (hi : ℕ) (ds : List ℕ) → isDays hi ds ≡ true → daysOf hi 1 (daySet ds) ≡ ds
-set-back hi ds v = ap (daysOf hi 1) (from-one ds) ∙ days-back hi 1 0 hi ds refl (omega arith) (and-right (not (isEmpty ds)) (climbs 0 hi ds) v)
+set-back hi ds v = ap (daysOf hi 1) (from-one ds) ∙ days-back hi 1 0 hi ds refl (omega arith) (days-climb hi ds v)
 
 -- Days above one another up to hi make a number below the power of hi.
 pub days-small : (from hi : ℕ) (ds : List ℕ) → from ≤ hi → climbs from hi ds ≡ true → daySet ds + 2 ^ from ≤ 2 ^ hi

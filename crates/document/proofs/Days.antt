@@ -19,6 +19,9 @@ climbs-parts from hi d ds c =
     let v = and-left (ltb from d && leb d hi) (climbs d hi ds) c in
     (ltb-true from d (and-left (ltb from d) (leb d hi) v), leb-true d hi (and-right (ltb from d) (leb d hi) v), and-right (ltb from d && leb d hi) (climbs d hi ds) c)
 
+pub days-climb : (hi : ℕ) (ds : List ℕ) → isDays hi ds ≡ true → climbs 0 hi ds ≡ true
+days-climb hi ds v = and-right (not (isEmpty ds)) (climbs 0 hi ds) v
+
 pub climbs-more : (from hi d : ℕ) (ds : List ℕ) → from < d → d ≤ hi → climbs d hi ds ≡ true → climbs from hi (d ∷ ds) ≡ true
 climbs-more from hi d ds p q c = and-both (and-both (lt-ltb from d p) (le-leb d hi q)) c
 
@@ -96,7 +99,7 @@ climbs-every least from hi (e ∷ es) h c =
     and-both (and-both (lt-ltb least e (omega arith)) (le-leb e hi (k .1))) (climbs-every least e hi es (omega arith) (k .2))
 
 pub days-in-range : (hi : ℕ) (ds : List ℕ) → isDays hi (ascending ds) ≡ true → every (λ d. leb 1 d && leb d hi) ds ≡ true
-days-in-range hi ds v = sym (every-ascending (λ d. leb 1 d && leb d hi) ds) ∙ climbs-every 0 0 hi (ascending ds) (omega arith) (and-right (not (isEmpty (ascending ds))) (climbs 0 hi (ascending ds)) v)
+days-in-range hi ds v = sym (every-ascending (λ d. leb 1 d && leb d hi) ds) ∙ climbs-every 0 0 hi (ascending ds) (omega arith) (days-climb hi (ascending ds) v)
 
 pub days-some : (hi : ℕ) (ds : List ℕ) → isDays hi (ascending ds) ≡ true → isEmpty ds ≡ false
 days-some hi ds v = sym (ascending-empty ds) ∙ not-true (isEmpty (ascending ds)) (and-left (not (isEmpty (ascending ds))) (climbs 0 hi (ascending ds)) v)

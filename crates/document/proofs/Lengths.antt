@@ -2,7 +2,7 @@
 use Prim.Native.Nat.{ℕ, zero, suc, _+_, _*_, _-_, _/_, _%_, _≤_}
 use mathlib.Core.Path.{_≡_}
 use mathlib.Core.List.{List, [], _∷_}
-use mathlib.Core.Bool.{Bool, true, false, not, _&&_, false≢true}
+use mathlib.Core.Bool.{Bool, true, false, not, false≢true}
 use mathlib.Core.Option.{Option, none, some}
 use Prim.Native.String.{String}
 use native.Mathlib.Omega.{arith}
@@ -14,15 +14,13 @@ use Rattle.json.specs.Tree.{Tree, Members, noMember}
 use Rattle.spelling.proofs.Tables.{each}
 use Rattle.document.specs.Bytes.{bytes}
 use Rattle.document.specs.Posology.{Posology, Day, Zone, east, west, Date, bare, moment, Dosage, simple, fromTo, range, AtTime, atTime, InSegment, inSegment, Timed, dosageOnly, times, daySegments, weekDays, daysOfMonth, interval, Detail, daily, freeText, single, cyclic, sequence, SequenceObject, posologySequence, pause, SequenceObjects, noObject, objectThen}
-use Rattle.document.specs.Date.{among}
 use Rattle.document.specs.Schema.{underSingle, underDays, underCyclic}
-use Rattle.document.specs.Visit.{isEmpty}
-use Rattle.document.specs.Valid.{climbs, isDays, isDuration, isTimeUnit, validTimed, validDetail, validObject, validObjects, someObject, valid, timedRecords, detailRecords, objectRecords, objectsRecords, strings, Fits}
+use Rattle.document.specs.Valid.{climbs, isDays, validTimed, validDetail, validObject, validObjects, valid, timedRecords, detailRecords, objectRecords, objectsRecords, strings, Fits}
 use Rattle.document.specs.Write.{greatestRoom}
 use Rattle.document.specs.Plain.{two, clock, zoneText, dayText, wholeDigits, fractionDigits, pointed, whole, amount, fieldIf, textTree, timeText, dosageTree, daysTree, timesTree, segmentsTree, timedTree, detailTree, objectTree, objectsTree, Slot, fieldOf, membersOf, mapped, dateTree, reserveTree, headSlots, plainTree, plainThen, plain}
-use Rattle.json.proofs.Truth.{and-left, and-right}
 use Rattle.document.proofs.Good.{detailText, objectText, objectsText, givenText}
-use Rattle.document.proofs.Days.{climbs-parts}
+use Rattle.document.proofs.Days.{climbs-parts, days-climb}
+use Rattle.document.proofs.DetailParts.{week-parts, month-parts, cyclic-parts, sequence-parts, posology-sequence-parts, objects-parts}
 use Rattle.document.proofs.ValidParts.{valid-parts, few-records}
 use Rattle.document.proofs.Written.{digits-length, fraction-length}
 use Rattle.document.proofs.Accepts.{strings-length}
@@ -84,24 +82,24 @@ segments-size [] = omega arith
 segments-size (inSegment d s ∷ ss) = let a = dosage-size d in let b = whole-size s in let c = segments-size ss in omega arith
 
 days-in : (hi : ℕ) (ds : List ℕ) → hi ≤ 28 → isDays hi ds ≡ true → elementsSize (daysTree ds) ≤ 1 + 3 * hi
-days-in hi ds h v = let a = days-size 0 hi ds h (and-right (not (isEmpty ds)) (climbs 0 hi ds) v) in omega arith
+days-in hi ds h v = let a = days-size 0 hi ds h (days-climb hi ds v) in omega arith
 
 timed-size : (td : Timed) (ts : List ℕ) → validTimed td ts ≡ true → size (timedTree td) ≤ 128 * timedRecords td
-unfolding timedTree validTimed size quotedSize escapedSize look
+unfolding timedTree size quotedSize escapedSize look
 timed-size (dosageOnly d) ts v = let t = whole-size 1 in let a = dosage-size d in omega arith
 timed-size (times as′) ts v = let t = whole-size 2 in let a = times-size as′ in omega arith
 timed-size (daySegments as′) ts v = let t = whole-size 3 in let a = segments-size as′ in omega arith
 timed-size (weekDays ds td) ts v =
-    let v₁ = and-left (among 4 ts && isDays 7 ds) (validTimed td underDays) v in
+    let w = week-parts ds td ts v in
     let t = whole-size 4 in
-    let a = days-in 7 ds (omega arith) (and-right (among 4 ts) (isDays 7 ds) v₁) in
-    let b = timed-size td underDays (and-right (among 4 ts && isDays 7 ds) (validTimed td underDays) v) in
+    let a = days-in 7 ds (omega arith) (w .days) in
+    let b = timed-size td underDays (w .timed) in
     omega arith
 timed-size (daysOfMonth ds td) ts v =
-    let v₁ = and-left (among 5 ts && isDays 28 ds) (validTimed td underDays) v in
+    let w = month-parts ds td ts v in
     let t = whole-size 5 in
-    let a = days-in 28 ds (omega arith) (and-right (among 5 ts) (isDays 28 ds) v₁) in
-    let b = timed-size td underDays (and-right (among 5 ts && isDays 28 ds) (validTimed td underDays) v) in
+    let a = days-in 28 ds (omega arith) (w .days) in
+    let b = timed-size td underDays (w .timed) in
     omega arith
 timed-size (interval d du u) ts v = let t = whole-size 6 in let a = dosage-size d in let b = whole-size du in let c = whole-size u in omega arith
 
@@ -118,30 +116,29 @@ mutual
   detail-size (freeText cs) n v = let t = whole-size 2 in let a = quoted-at-most cs in omega arith
   detail-size (single td) n v = let t = whole-size 3 in let a = timed-size td underSingle v in omega arith
   detail-size (cyclic u du td per) n v =
-      let v₁ = and-left (isTimeUnit u && isDuration du && validTimed td (underCyclic u)) (isDuration per) v in
       let t = whole-size 4 in
       let a = whole-size u in
       let b = whole-size du in
-      let c = timed-size td (underCyclic u) (and-right (isTimeUnit u && isDuration du) (validTimed td (underCyclic u)) v₁) in
+      let c = timed-size td (underCyclic u) (cyclic-parts u du td per n v .timed) in
       let d = last-size (not (eqb per 1)) per in
       omega arith
   detail-size (sequence os) zero v = absurd (false≢true v)
-  detail-size (sequence os) (suc n) v = let t = whole-size 5 in let a = objects-size os n (and-right (someObject os) (validObjects os n) v) in omega arith
+  detail-size (sequence os) (suc n) v = let t = whole-size 5 in let a = objects-size os n (sequence-parts os n v .objects) in omega arith
 
   object-size : (o : SequenceObject) (n : ℕ) → validObject o n ≡ true → 1 + size (objectTree o) ≤ 128 * objectRecords o + 6 * objectText o
   object-size (posologySequence du u po) n v =
       let t = whole-size 1 in
       let a = whole-size du in
       let b = whole-size u in
-      let c = detail-size po n (and-right (isDuration du && isTimeUnit u) (validDetail po n) v) in
+      let c = detail-size po n (posology-sequence-parts du u po n v .detail) in
       omega arith
   object-size (pause du u) n v = let t = whole-size 2 in let a = whole-size du in let b = whole-size u in omega arith
 
   objects-size : (os : SequenceObjects) (n : ℕ) → validObjects os n ≡ true → elementsSize (objectsTree os) ≤ 1 + (128 * objectsRecords os + 6 * objectsText os)
   objects-size noObject n v = omega arith
   objects-size (objectThen o os) n v =
-      let a = object-size o n (and-left (validObject o n) (validObjects os n) v) in
-      let b = objects-size os n (and-right (validObject o n) (validObjects os n) v) in
+      let a = object-size o n (objects-parts o os n v .first) in
+      let b = objects-size os n (objects-parts o os n v .rest) in
       omega arith
 
 -- Dates. A byte from 48 on takes at most two.

@@ -9,6 +9,7 @@ pub mod Days
 pub mod RealDates
 pub mod Makes
 pub mod Sound
+pub mod DetailParts
 pub mod Parts
 pub mod ValidParts
 pub mod Complete

@@ -3,23 +3,23 @@ use mathlib.Core.Path.{_≡_, refl, ap, sym, subst, _∙_}
 use mathlib.Core.List.{List}
 use mathlib.Core.Bool.{Bool, true, false, not, _&&_, _||_, cond, false≢true}
 use mathlib.Core.Option.{Option, none, some, Option·getD}
-use Prim.Native.Nat.{ℕ, zero, suc, _+_, _-_, _≤_, _<_}
+use Prim.Native.Nat.{ℕ, zero, suc, _+_, _-_}
 use native.Mathlib.Omega.{arith}
 use lib.Dec.{eqb, leb, ltb, leb·zero}
 use lib.ListN.{length}
-use borrow.Author.Tests.{leb-true, ltb-true, le-leb, lt-ltb}
+use borrow.Author.Tests.{lt-ltb}
 use Rattle.document.specs.Bytes.{bytes}
-use Rattle.document.specs.Utf8.{isUtf8}
 use Rattle.document.specs.Posology.{Posology, Date, Dosage, simple, AtTime, InSegment, Timed, dosageOnly, times, daySegments, weekDays, daysOfMonth, interval, Detail, daily, freeText, single, cyclic, sequence, SequenceObject, posologySequence, pause, ordered}
 use Rattle.document.specs.Date.{among, isDate, isSecond, inOrder}
 use Rattle.document.specs.Lookup.{Entry, Found, nothing, one, twice, find}
-use Rattle.document.specs.Schema.{greatestDecimal, greatestInteger, mealCodes, sequencesInside, aPosology, aDetail, aTimed, aDosage, aSequenceObject, anAtTime, anInSegment, integer, decimal, date, time, fourDecimals, days, underDays, underCyclic, Shape, aNumber, aString, aFlag, anObject, aList, Of, Rows, need, may, gives, gives-if, aText, rowsOf}
+use Rattle.document.specs.Schema.{greatestDecimal, greatestInteger, mealCodes, sequencesInside, aPosology, aDetail, aTimed, aDosage, aSequenceObject, anAtTime, anInSegment, integer, decimal, date, time, fourDecimals, days, Shape, aNumber, aString, aFlag, anObject, aList, Of, Rows, need, may, gives, gives-if, aText, rowsOf}
 use Rattle.document.specs.Visit.{Left, recordLess, isEmpty}
-use Rattle.document.specs.Valid.{isAmount, isDuration, isTimeUnit, isText, isDays, isMeal, isUnitFor, ifGiven, every, someObject, validObjects, validDosage, validAtTime, validInSegment, validTimed, validDetail, validObject, validFields, timedRecords, detailRecords, objectRecords}
+use Rattle.document.specs.Valid.{isAmount, isDuration, isText, isMeal, isUnitFor, ifGiven, every, validDosage, validAtTime, validInSegment, validDetail, validObject, validFields, timedRecords, detailRecords, objectRecords}
 use Rattle.document.specs.Spells.{Meaning, Given, Perhaps, FieldsMean}
 use Rattle.json.proofs.Truth.{and-both, and-left, and-right}
 use Rattle.document.proofs.Good.{sum, detailText, objectText, givenText, Takes, Good}
 use Rattle.document.proofs.Makes.{takes-as, sum-two, sum-none, objects-valid, objects-records, objects-text, some-object, above}
+use Rattle.document.proofs.DetailParts.{from-to-parts, range-parts, dosage-only-parts, times-parts, segments-parts, week-parts, month-parts, interval-parts, text-parts, cyclic-parts, sequence-parts, posology-sequence-parts, pause-parts}
 use Rattle.document.proofs.Sound.{good-free}
 
 abbrev pub GoodGiven : (s : Shape) → Option (Of s) → Left → Left → Type 0
@@ -53,12 +53,6 @@ opens c d l l″ t = let a = t .taken in lt-ltb 0 (l .records) (omega arith)
 pub amount-of : (a : ℕ) → isAmount a ≡ true → (leb 0 a && leb a greatestDecimal) ≡ true
 amount-of a h = and-both (leb·zero a) h
 
-amount-below : (a b : ℕ) → ltb a b ≡ true → isAmount b ≡ true → (leb 0 a && leb a greatestDecimal) ≡ true
-amount-below a b h k =
-    let p : a < b = ltb-true a b h in
-    let q : b ≤ greatestDecimal = leb-true b greatestDecimal k in
-    amount-of a (le-leb a greatestDecimal (omega arith))
-
 module _ (ds : List (Entry Meaning)) (l l″ : Left) where
   abbrev l₁ : Left
   l₁ = recordLess l
@@ -71,51 +65,44 @@ module _ (ds : List (Entry Meaning)) (l l″ : Left) where
       (f .0, l₁, f .1, good-free (aNumber (decimal 1)) (f .0) l₁ v refl refl, (f .2, nothing-taken l₁ l″ (inner 0 0 l l″ (g .takes))))
   dosage-parts (suc (suc zero)) x h f g =
       let a = f .0 in let f₁ = f .2 in let b = f₁ .0 in let f₂ = f₁ .2 in let unit = f₂ .0 in let f₃ = f₂ .2 in let du = f₃ .0 in
-      let v : (ltb a b && isAmount b && isTimeUnit unit && isDuration du) ≡ true = ap validDosage (f₃ .2) ∙ g .valid in
-      let v₁ : (ltb a b && isAmount b && isTimeUnit unit) ≡ true = and-left _ (isDuration du) v in
-      let v₂ : (ltb a b && isAmount b) ≡ true = and-left _ (isTimeUnit unit) v₁ in
-      let less : ltb a b ≡ true = and-left (ltb a b) (isAmount b) v₂ in
-      let most : isAmount b ≡ true = and-right (ltb a b) (isAmount b) v₂ in (
+      let v = from-to-parts a b unit du (ap validDosage (f₃ .2) ∙ g .valid) in (
         a,
         l₁,
         f .1,
-        good-free (aNumber (decimal 0)) a l₁ (amount-below a b less most) refl refl,
+        good-free (aNumber (decimal 0)) a l₁ (amount-of a (v .least)) refl refl,
         (
           b,
           l₁,
           f₁ .1,
-          good-free (aNumber (decimal 0)) b l₁ (amount-of b most) refl refl,
+          good-free (aNumber (decimal 0)) b l₁ (amount-of b (v .most)) refl refl,
           (
             unit,
             l₁,
             f₂ .1,
-            good-free (aNumber (integer 1 7)) unit l₁ (and-right (ltb a b && isAmount b) (isTimeUnit unit) v₁) refl refl,
+            good-free (aNumber (integer 1 7)) unit l₁ (v .unit) refl refl,
             (
               du,
               l₁,
               f₃ .1,
-              good-free (aNumber (integer 1 greatestInteger)) du l₁ (and-right (ltb a b && isAmount b && isTimeUnit unit) (isDuration du) v) refl refl,
-              (less, f₃ .2, nothing-taken l₁ l″ (inner 0 0 l l″ (g .takes))),
+              good-free (aNumber (integer 1 greatestInteger)) du l₁ (v .duration) refl refl,
+              (v .rises, f₃ .2, nothing-taken l₁ l″ (inner 0 0 l l″ (g .takes))),
             ),
           ),
         ),
       )
   dosage-parts (suc (suc (suc zero))) x h f g =
       let a = f .0 in let f₁ = f .2 in let b = f₁ .0 in
-      let v : (ltb 0 a && ltb a b && isAmount b) ≡ true = ap validDosage (f₁ .2) ∙ g .valid in
-      let v₁ : (ltb 0 a && ltb a b) ≡ true = and-left _ (isAmount b) v in
-      let most : isAmount b ≡ true = and-right (ltb 0 a && ltb a b) (isAmount b) v in
-      let less : ltb a b ≡ true = and-right (ltb 0 a) (ltb a b) v₁ in (
+      let v = range-parts a b (ap validDosage (f₁ .2) ∙ g .valid) in (
         a,
         l₁,
         f .1,
-        good-free (aNumber (decimal 1)) a l₁ (and-both (and-left (ltb 0 a) (ltb a b) v₁) (and-right (leb 0 a) (leb a greatestDecimal) (amount-below a b less most))) refl refl,
+        good-free (aNumber (decimal 1)) a l₁ (and-both (v .some) (v .least)) refl refl,
         (
           b,
           l₁,
           f₁ .1,
-          good-free (aNumber (decimal 0)) b l₁ (amount-of b most) refl refl,
-          (less, f₁ .2, nothing-taken l₁ l″ (inner 0 0 l l″ (g .takes))),
+          good-free (aNumber (decimal 0)) b l₁ (amount-of b (v .most)) refl refl,
+          (v .rises, f₁ .2, nothing-taken l₁ l″ (inner 0 0 l l″ (g .takes))),
         ),
       )
   dosage-parts (suc (suc (suc (suc t)))) x h f g = absurd (above 3 (suc (suc (suc (suc t)))) (omega arith) h)
@@ -150,79 +137,75 @@ module _ (ds : List (Entry Meaning)) (l l″ : Left) where
     timed-takes y x e g = subst (λ (z : Timed). Good (anObject (aTimed ts)) z l l″) (sym e) g
 
     pub timed-parts : (t : ℕ) (x : Timed) → (leb 1 t && leb t 6) ≡ true → FieldsMean (rowsOf (aTimed ts) t) ds x → Good (anObject (aTimed ts)) x l l″ → (among t ts ≡ true) × (ltb 0 (l .records) ≡ true) × Parts (rowsOf (aTimed ts) t) ds l₁ x l″
-    unfolding rowsOf validTimed
+    unfolding rowsOf
     timed-parts zero x h f g = absurd (false≢true h)
     timed-parts (suc zero) x h f g =
         let d = f .0 in let g′ = timed-takes (dosageOnly d) x (f .2) g in
-        let v : (among 1 ts && validDosage d) ≡ true = g′ .valid in (
-          and-left (among 1 ts) (validDosage d) v,
+        let v = dosage-only-parts d ts (g′ .valid) in (
+          v .allowed,
           opens 1 0 l l″ (g′ .takes),
-          (d, l″, f .1, record { valid = and-right (among 1 ts) (validDosage d) v; takes = inner 1 0 l l″ (g′ .takes) }, (f .2, refl)),
+          (d, l″, f .1, record { valid = v .dosage; takes = inner 1 0 l l″ (g′ .takes) }, (f .2, refl)),
         )
     timed-parts (suc (suc zero)) x h f g =
         let as′ = f .0 in let g′ = timed-takes (times as′) x (f .2) g in
-        let v : (among 2 ts && every validAtTime as′) ≡ true = g′ .valid in
+        let v = times-parts as′ ts (g′ .valid) in
         let e : length as′ + length as′ ≡ sum (λ (a : AtTime). 2) as′ = sym (sum-two as′) in
         let z : 0 ≡ sum (λ (a : AtTime). 0) as′ = sym (sum-none as′) in (
-          and-left (among 2 ts) (every validAtTime as′) v,
+          v .allowed,
           opens (length as′ + length as′) 0 l l″ (g′ .takes),
-          (as′, l″, f .1, record { valid = and-right (among 2 ts) (every validAtTime as′) v; takes = takes-as e z (inner (length as′ + length as′) 0 l l″ (g′ .takes)) }, (f .2, refl)),
+          (as′, l″, f .1, record { valid = v .each; takes = takes-as e z (inner (length as′ + length as′) 0 l l″ (g′ .takes)) }, (f .2, refl)),
         )
     timed-parts (suc (suc (suc zero))) x h f g =
         let as′ = f .0 in let g′ = timed-takes (daySegments as′) x (f .2) g in
-        let v : (among 3 ts && every validInSegment as′) ≡ true = g′ .valid in
+        let v = segments-parts as′ ts (g′ .valid) in
         let e : length as′ + length as′ ≡ sum (λ (a : InSegment). 2) as′ = sym (sum-two as′) in
         let z : 0 ≡ sum (λ (a : InSegment). 0) as′ = sym (sum-none as′) in (
-          and-left (among 3 ts) (every validInSegment as′) v,
+          v .allowed,
           opens (length as′ + length as′) 0 l l″ (g′ .takes),
-          (as′, l″, f .1, record { valid = and-right (among 3 ts) (every validInSegment as′) v; takes = takes-as e z (inner (length as′ + length as′) 0 l l″ (g′ .takes)) }, (f .2, refl)),
+          (as′, l″, f .1, record { valid = v .each; takes = takes-as e z (inner (length as′ + length as′) 0 l l″ (g′ .takes)) }, (f .2, refl)),
         )
     timed-parts (suc (suc (suc (suc zero)))) x h f g =
         let set = f .0 in let f₁ = f .2 in let td = f₁ .0 in let g′ = timed-takes (weekDays set td) x (f₁ .2) g in
-        let v : (among 4 ts && isDays 7 set && validTimed td underDays) ≡ true = g′ .valid in
-        let v₁ : (among 4 ts && isDays 7 set) ≡ true = and-left _ (validTimed td underDays) v in (
-          and-left (among 4 ts) (isDays 7 set) v₁,
+        let v = week-parts set td ts (g′ .valid) in (
+          v .allowed,
           opens (timedRecords td) 0 l l″ (g′ .takes),
           (
             set,
             l₁,
             f .1,
-            good-free (aList (days 7)) set l₁ (and-right (among 4 ts) (isDays 7 set) v₁) refl refl,
-            (td, l″, f₁ .1, record { valid = and-right (among 4 ts && isDays 7 set) (validTimed td underDays) v; takes = inner (timedRecords td) 0 l l″ (g′ .takes) }, (f₁ .2, refl)),
+            good-free (aList (days 7)) set l₁ (v .days) refl refl,
+            (td, l″, f₁ .1, record { valid = v .timed; takes = inner (timedRecords td) 0 l l″ (g′ .takes) }, (f₁ .2, refl)),
           ),
         )
     timed-parts (suc (suc (suc (suc (suc zero))))) x h f g =
         let set = f .0 in let f₁ = f .2 in let td = f₁ .0 in let g′ = timed-takes (daysOfMonth set td) x (f₁ .2) g in
-        let v : (among 5 ts && isDays 28 set && validTimed td underDays) ≡ true = g′ .valid in
-        let v₁ : (among 5 ts && isDays 28 set) ≡ true = and-left _ (validTimed td underDays) v in (
-          and-left (among 5 ts) (isDays 28 set) v₁,
+        let v = month-parts set td ts (g′ .valid) in (
+          v .allowed,
           opens (timedRecords td) 0 l l″ (g′ .takes),
           (
             set,
             l₁,
             f .1,
-            good-free (aList (days 28)) set l₁ (and-right (among 5 ts) (isDays 28 set) v₁) refl refl,
-            (td, l″, f₁ .1, record { valid = and-right (among 5 ts && isDays 28 set) (validTimed td underDays) v; takes = inner (timedRecords td) 0 l l″ (g′ .takes) }, (f₁ .2, refl)),
+            good-free (aList (days 28)) set l₁ (v .days) refl refl,
+            (td, l″, f₁ .1, record { valid = v .timed; takes = inner (timedRecords td) 0 l l″ (g′ .takes) }, (f₁ .2, refl)),
           ),
         )
     timed-parts (suc (suc (suc (suc (suc (suc zero)))))) x h f g =
         let d = f .0 in let f₁ = f .2 in let du = f₁ .0 in let f₂ = f₁ .2 in let unit = f₂ .0 in let g′ = timed-takes (interval d du unit) x (f₂ .2) g in
-        let v : (among 6 ts && validDosage d && isDuration du && isTimeUnit unit) ≡ true = g′ .valid in
-        let v₁ : (among 6 ts && validDosage d && isDuration du) ≡ true = and-left _ (isTimeUnit unit) v in
-        let v₂ : (among 6 ts && validDosage d) ≡ true = and-left _ (isDuration du) v₁ in (
-          and-left (among 6 ts) (validDosage d) v₂,
+        let v = interval-parts d du unit ts (g′ .valid) in (
+          v .allowed,
           opens 1 0 l l″ (g′ .takes),
           (
             d,
             l″,
             f .1,
-            record { valid = and-right (among 6 ts) (validDosage d) v₂; takes = inner 1 0 l l″ (g′ .takes) },
+            record { valid = v .dosage; takes = inner 1 0 l l″ (g′ .takes) },
             (
               du,
               l″,
               f₁ .1,
-              good-free (aNumber (integer 1 greatestInteger)) du l″ (and-right (among 6 ts && validDosage d) (isDuration du) v₁) refl refl,
-              (unit, l″, f₂ .1, good-free (aNumber (integer 1 7)) unit l″ (and-right (among 6 ts && validDosage d && isDuration du) (isTimeUnit unit) v) refl refl, (f₂ .2, refl)),
+              good-free (aNumber (integer 1 greatestInteger)) du l″ (v .duration) refl refl,
+              (unit, l″, f₂ .1, good-free (aNumber (integer 1 7)) unit l″ (v .unit) refl refl, (f₂ .2, refl)),
             ),
           ),
         )
@@ -237,10 +220,11 @@ sequence-back : (n : ℕ) (os : List SequenceObject) → validDetail (sequence (
 unfolding validDetail
 sequence-back zero os v = absurd (false≢true v)
 sequence-back (suc k) os v =
-    let e : k ≡ suc k - 1 = omega arith in (
+    let e : k ≡ suc k - 1 = omega arith in
+    let w = sequence-parts (ordered os) k v in (
       lt-ltb 0 (suc k) (omega arith),
       subst (λ (j : ℕ). (not (isEmpty os) && every (λ o. validObject o j) os) ≡ true) e
-          (and-both (sym (some-object os) ∙ and-left (someObject (ordered os)) (validObjects (ordered os) k) v) (sym (objects-valid k os) ∙ and-right (someObject (ordered os)) (validObjects (ordered os) k) v)),
+          (and-both (sym (some-object os) ∙ w .some) (sym (objects-valid k os) ∙ w .objects)),
     )
 
 module _ (ds : List (Entry Meaning)) (l l″ : Left) (n : ℕ) where
@@ -255,34 +239,32 @@ module _ (ds : List (Entry Meaning)) (l l″ : Left) (n : ℕ) where
       (refl, opens 0 0 l l″ (g′ .takes), (four, recordLess l, f .1, good-free (aList fourDecimals) four (recordLess l) (g′ .valid) refl refl, (f .2, nothing-taken (recordLess l) l″ (inner 0 0 l l″ (g′ .takes)))))
   detail-parts (suc (suc zero)) x h f g =
       let cs = f .0 in let g′ = detail-made (freeText cs) x (f .2) g in
-      (refl, opens 0 (length cs) l l″ (g′ .takes), (cs, l″, f .1, record { valid = and-right (not (isEmpty cs)) (isUtf8 cs) (g′ .valid); takes = inner 0 (length cs) l l″ (g′ .takes) }, (f .2, refl)))
+      (refl, opens 0 (length cs) l l″ (g′ .takes), (cs, l″, f .1, record { valid = text-parts cs (g′ .valid) .utf8; takes = inner 0 (length cs) l l″ (g′ .takes) }, (f .2, refl)))
   detail-parts (suc (suc (suc zero))) x h f g =
       let td = f .0 in let g′ = detail-made (single td) x (f .2) g in
       (refl, opens (timedRecords td) 0 l l″ (g′ .takes), (td, l″, f .1, record { valid = g′ .valid; takes = inner (timedRecords td) 0 l l″ (g′ .takes) }, (f .2, refl)))
   detail-parts (suc (suc (suc (suc zero)))) x h f g =
       let unit = f .0 in let f₁ = f .2 in let du = f₁ .0 in let f₂ = f₁ .2 in let td = f₂ .0 in let f₃ = f₂ .2 in let per = f₃ .0 in
       let g′ = detail-made (cyclic unit du td (Option·getD per 1)) x (f₃ .2) g in
-      let v : (isTimeUnit unit && isDuration du && validTimed td (underCyclic unit) && isDuration (Option·getD per 1)) ≡ true = g′ .valid in
-      let v₁ : (isTimeUnit unit && isDuration du && validTimed td (underCyclic unit)) ≡ true = and-left _ (isDuration (Option·getD per 1)) v in
-      let v₂ : (isTimeUnit unit && isDuration du) ≡ true = and-left _ (validTimed td (underCyclic unit)) v₁ in (
+      let v = cyclic-parts unit du td (Option·getD per 1) n (g′ .valid) in (
         refl,
         opens (timedRecords td) 0 l l″ (g′ .takes),
         (
           unit,
           recordLess l,
           f .1,
-          good-free (aNumber (integer 1 7)) unit (recordLess l) (and-left (isTimeUnit unit) (isDuration du) v₂) refl refl,
+          good-free (aNumber (integer 1 7)) unit (recordLess l) (v .unit) refl refl,
           (
             du,
             recordLess l,
             f₁ .1,
-            good-free (aNumber (integer 1 greatestInteger)) du (recordLess l) (and-right (isTimeUnit unit) (isDuration du) v₂) refl refl,
+            good-free (aNumber (integer 1 greatestInteger)) du (recordLess l) (v .duration) refl refl,
             (
               td,
               l″,
               f₂ .1,
-              record { valid = and-right (isTimeUnit unit && isDuration du) (validTimed td (underCyclic unit)) v₁; takes = inner (timedRecords td) 0 l l″ (g′ .takes) },
-              (per, l″, f₃ .1, per-given per l″ (and-right (isTimeUnit unit && isDuration du && validTimed td (underCyclic unit)) (isDuration (Option·getD per 1)) v), (f₃ .2, refl)),
+              record { valid = v .timed; takes = inner (timedRecords td) 0 l l″ (g′ .takes) },
+              (per, l″, f₃ .1, per-given per l″ (v .per), (f₃ .2, refl)),
             ),
           ),
         ),
@@ -299,41 +281,40 @@ module _ (ds : List (Entry Meaning)) (l l″ : Left) (n : ℕ) where
   object-made y x e g = subst (λ (z : SequenceObject). Good (anObject (aSequenceObject n)) z l l″) (sym e) g
 
   pub object-parts : (t : ℕ) (x : SequenceObject) → (leb 1 t && leb t 2) ≡ true → FieldsMean (rowsOf (aSequenceObject n) t) ds x → Good (anObject (aSequenceObject n)) x l l″ → (ltb 0 (l .records) ≡ true) × Parts (rowsOf (aSequenceObject n) t) ds (recordLess l) x l″
-  unfolding rowsOf validDetail detailRecords detailText
+  unfolding rowsOf detailRecords detailText
   object-parts zero x h f g = absurd (false≢true h)
   object-parts (suc zero) x h f g =
       let du = f .0 in let f₁ = f .2 in let unit = f₁ .0 in let f₂ = f₁ .2 in let po = f₂ .0 in let g′ = object-made (posologySequence du unit po) x (f₂ .2) g in
-      let v : (isDuration du && isTimeUnit unit && validDetail po n) ≡ true = g′ .valid in
-      let v₁ : (isDuration du && isTimeUnit unit) ≡ true = and-left _ (validDetail po n) v in (
+      let v = posology-sequence-parts du unit po n (g′ .valid) in (
         opens (detailRecords po) (detailText po) l l″ (g′ .takes),
         (
           du,
           recordLess l,
           f .1,
-          good-free (aNumber (integer 1 greatestInteger)) du (recordLess l) (and-left (isDuration du) (isTimeUnit unit) v₁) refl refl,
+          good-free (aNumber (integer 1 greatestInteger)) du (recordLess l) (v .duration) refl refl,
           (
             unit,
             recordLess l,
             f₁ .1,
-            good-free (aNumber (integer 1 7)) unit (recordLess l) (and-right (isDuration du) (isTimeUnit unit) v₁) refl refl,
-            (po, l″, f₂ .1, record { valid = and-right (isDuration du && isTimeUnit unit) (validDetail po n) v; takes = inner (detailRecords po) (detailText po) l l″ (g′ .takes) }, (f₂ .2, refl)),
+            good-free (aNumber (integer 1 7)) unit (recordLess l) (v .unit) refl refl,
+            (po, l″, f₂ .1, record { valid = v .detail; takes = inner (detailRecords po) (detailText po) l l″ (g′ .takes) }, (f₂ .2, refl)),
           ),
         ),
       )
   object-parts (suc (suc zero)) x h f g =
       let du = f .0 in let f₁ = f .2 in let unit = f₁ .0 in let g′ = object-made (pause du unit) x (f₁ .2) g in
-      let v : (isDuration du && isTimeUnit unit) ≡ true = g′ .valid in (
+      let v = pause-parts du unit n (g′ .valid) in (
         opens 0 0 l l″ (g′ .takes),
         (
           du,
           recordLess l,
           f .1,
-          good-free (aNumber (integer 1 greatestInteger)) du (recordLess l) (and-left (isDuration du) (isTimeUnit unit) v) refl refl,
+          good-free (aNumber (integer 1 greatestInteger)) du (recordLess l) (v .duration) refl refl,
           (
             unit,
             recordLess l,
             f₁ .1,
-            good-free (aNumber (integer 1 7)) unit (recordLess l) (and-right (isDuration du) (isTimeUnit unit) v) refl refl,
+            good-free (aNumber (integer 1 7)) unit (recordLess l) (v .unit) refl refl,
             (f₁ .2, nothing-taken (recordLess l) l″ (inner 0 0 l l″ (g′ .takes))),
           ),
         ),
@@ -346,7 +327,7 @@ before d k = record { records = k .records; room = d + k .room }
 
 text-given : (u : Option (List ℕ)) (k : Left) → ifGiven isText u ≡ true → GoodGiven aText u (before (givenText u) k) k
 text-given none k v = nothing-taken (before 0 k) k (record { taken = omega arith; used = omega arith })
-text-given (some cs) k v = record { valid = and-right (not (isEmpty cs)) (isUtf8 cs) v; takes = record { taken = omega arith; used = omega arith } }
+text-given (some cs) k v = record { valid = text-parts cs v .utf8; takes = record { taken = omega arith; used = omega arith } }
 
 date-given : (d : Option Date) (k : Left) → ifGiven isDate d ≡ true → GoodGiven (aString date) d k k
 date-given none k v = refl

@@ -1,6 +1,6 @@
 -- A plain text of a valid posology is not deep: three sequences inside one another reach no deeper than 16 brackets.
 use mathlib.Core.List.{List, [], _∷_}
-use mathlib.Core.Bool.{Bool, true, false, not, _&&_, false≢true}
+use mathlib.Core.Bool.{Bool, true, false, not, false≢true}
 use mathlib.Core.Option.{Option, none, some}
 use mathlib.Core.Path.{_≡_}
 use Prim.Native.Nat.{ℕ, zero, suc, _+_, _*_, _≤_}
@@ -11,12 +11,11 @@ use lib.Dec.{eqb}
 use Rattle.json.specs.Tree.{Tree, object, list, Members, noMember, Elements, noElement, element}
 use Rattle.spelling.specs.Depth.{depth, depthOfMembers, depthOfElements}
 use Rattle.document.specs.Posology.{Posology, Dosage, simple, fromTo, range, AtTime, atTime, InSegment, inSegment, Timed, dosageOnly, times, daySegments, weekDays, daysOfMonth, interval, Detail, daily, freeText, single, cyclic, sequence, SequenceObject, posologySequence, pause, SequenceObjects, noObject, objectThen}
-use Rattle.document.specs.Date.{among}
 use Rattle.document.specs.Schema.{underSingle, underDays, underCyclic}
-use Rattle.document.specs.Valid.{isDays, isDuration, isTimeUnit, validTimed, validDetail, validObject, validObjects, someObject, valid}
+use Rattle.document.specs.Valid.{validTimed, validDetail, validObject, validObjects, valid}
 use Rattle.document.proofs.ValidParts.{valid-parts}
 use Rattle.document.specs.Plain.{field, fieldIf, typed, whole, dosageTree, daysTree, timesTree, segmentsTree, timedTree, detailTree, objectTree, objectsTree, Slot, fieldOf, membersOf, mapped, textTree, dateTree, reserveTree, headSlots, plainTree, timeText, dateText}
-use Rattle.json.proofs.Truth.{and-left, and-right}
+use Rattle.document.proofs.DetailParts.{week-parts, month-parts, cyclic-parts, sequence-parts, posology-sequence-parts, objects-parts}
 
 -- Members and elements no deeper than n.
 member-depth : (name : String) (t : Tree) (ms : Members) (n : ℕ) → depth t ≤ n → depthOfMembers ms ≤ n → depthOfMembers (field name t ms) ≤ n
@@ -108,12 +107,12 @@ days-list : (ds : List ℕ) → depth (list [] (daysTree ds)) ≤ 4
 days-list ds = weaker (list-depth (daysTree ds) 0 (days-depth ds)) (omega arith)
 
 timed-depth : (td : Timed) (ts : List ℕ) → validTimed td ts ≡ true → depth (timedTree td) ≤ 5
-unfolding timedTree validTimed
+unfolding timedTree
 timed-depth (dosageOnly d) ts v = typed-depth 1 (field "do" (dosageTree d) noMember) 4 (only-member "do" (dosageTree d) 4 (dosage-in d 4 (omega arith)))
 timed-depth (times as′) ts v = typed-depth 2 (field "ts" (list [] (timesTree as′)) noMember) 4 (only-member "ts" (list [] (timesTree as′)) 4 (weaker (list-depth (timesTree as′) 2 (times-depth as′)) (omega arith)))
 timed-depth (daySegments as′) ts v = typed-depth 3 (field "ss" (list [] (segmentsTree as′)) noMember) 4 (only-member "ss" (list [] (segmentsTree as′)) 4 (weaker (list-depth (segmentsTree as′) 2 (segments-depth as′)) (omega arith)))
-timed-depth (weekDays ds td) ts v = typed-depth 4 (field "wds" (list [] (daysTree ds)) (field "tdo" (timedTree td) noMember)) 4 (member-depth "wds" (list [] (daysTree ds)) (field "tdo" (timedTree td) noMember) 4 (days-list ds) (only-member "tdo" (timedTree td) 4 (flat-depth td (and-right (among 4 ts && isDays 7 ds) (validTimed td underDays) v))))
-timed-depth (daysOfMonth ds td) ts v = typed-depth 5 (field "doms" (list [] (daysTree ds)) (field "tdo" (timedTree td) noMember)) 4 (member-depth "doms" (list [] (daysTree ds)) (field "tdo" (timedTree td) noMember) 4 (days-list ds) (only-member "tdo" (timedTree td) 4 (flat-depth td (and-right (among 5 ts && isDays 28 ds) (validTimed td underDays) v))))
+timed-depth (weekDays ds td) ts v = typed-depth 4 (field "wds" (list [] (daysTree ds)) (field "tdo" (timedTree td) noMember)) 4 (member-depth "wds" (list [] (daysTree ds)) (field "tdo" (timedTree td) noMember) 4 (days-list ds) (only-member "tdo" (timedTree td) 4 (flat-depth td (week-parts ds td ts v .timed))))
+timed-depth (daysOfMonth ds td) ts v = typed-depth 5 (field "doms" (list [] (daysTree ds)) (field "tdo" (timedTree td) noMember)) 4 (member-depth "doms" (list [] (daysTree ds)) (field "tdo" (timedTree td) noMember) 4 (days-list ds) (only-member "tdo" (timedTree td) 4 (flat-depth td (month-parts ds td ts v .timed))))
 timed-depth (interval d du u) ts v = typed-depth 6 (field "do" (dosageTree d) (field "miDu" (whole du) (field "miDuU" (whole u) noMember))) 4 (member-depth "do" (dosageTree d) (field "miDu" (whole du) (field "miDuU" (whole u) noMember)) 4 (dosage-in d 4 (omega arith)) (whole-then "miDu" du (field "miDuU" (whole u) noMember) 4 (only-whole "miDuU" u 4)))
 
 last-depth : (b : Bool) (m n : ℕ) → depthOfMembers (fieldIf b "tdpc" (whole m) noMember) ≤ n
@@ -136,19 +135,19 @@ mutual
   detail-depth (freeText cs) n v = weaker (free-depth cs) (omega arith)
   detail-depth (single td) n v = weaker (typed-depth 3 (field "tdo" (timedTree td) noMember) 5 (only-member "tdo" (timedTree td) 5 (timed-depth td underSingle v))) (omega arith)
   detail-depth (cyclic u du td per) n v =
-      let t = and-right (isTimeUnit u && isDuration du) (validTimed td (underCyclic u)) (and-left (isTimeUnit u && isDuration du && validTimed td (underCyclic u)) (isDuration per) v) in
+      let t = cyclic-parts u du td per n v .timed in
       weaker (typed-depth 4 (field "cyDuU" (whole u) (field "cyDu" (whole du) (field "tdo" (timedTree td) (fieldIf (not (eqb per 1)) "tdpc" (whole per) noMember)))) 5
       (whole-then "cyDuU" u (field "cyDu" (whole du) (field "tdo" (timedTree td) (fieldIf (not (eqb per 1)) "tdpc" (whole per) noMember))) 5
       (whole-then "cyDu" du (field "tdo" (timedTree td) (fieldIf (not (eqb per 1)) "tdpc" (whole per) noMember)) 5
       (member-depth "tdo" (timedTree td) (fieldIf (not (eqb per 1)) "tdpc" (whole per) noMember) 5 (timed-depth td (underCyclic u) t) (last-depth (not (eqb per 1)) per 5))))) (omega arith)
   detail-depth (sequence os) zero v = absurd (false≢true v)
   detail-depth (sequence os) (suc n) v =
-      let o = objects-depth os n (and-right (someObject os) (validObjects os n) v) in
+      let o = objects-depth os n (sequence-parts os n v .objects) in
       weaker (typed-depth 5 (field "sos" (list [] (objectsTree os)) noMember) (suc (7 + 3 * n)) (only-member "sos" (list [] (objectsTree os)) (suc (7 + 3 * n)) (list-depth (objectsTree os) (7 + 3 * n) o))) (omega arith)
 
   object-depth : (o : SequenceObject) (n : ℕ) → validObject o n ≡ true → depth (objectTree o) ≤ 7 + 3 * n
   object-depth (posologySequence du u po) n v =
-      let d = detail-depth po n (and-right (isDuration du && isTimeUnit u) (validDetail po n) v) in
+      let d = detail-depth po n (posology-sequence-parts du u po n v .detail) in
       weaker (typed-depth 1 (field "du" (whole du) (field "duU" (whole u) (field "po" (detailTree po) noMember))) (6 + 3 * n)
       (whole-then "du" du (field "duU" (whole u) (field "po" (detailTree po) noMember)) (6 + 3 * n)
       (whole-then "duU" u (field "po" (detailTree po) noMember) (6 + 3 * n) (only-member "po" (detailTree po) (6 + 3 * n) d)))) (omega arith)
@@ -156,7 +155,7 @@ mutual
 
   objects-depth : (os : SequenceObjects) (n : ℕ) → validObjects os n ≡ true → depthOfElements (objectsTree os) ≤ 7 + 3 * n
   objects-depth noObject n v = no-element-depth (7 + 3 * n)
-  objects-depth (objectThen o os) n v = element-depth (objectTree o) (objectsTree os) (7 + 3 * n) (object-depth o n (and-left (validObject o n) (validObjects os n) v)) (objects-depth os n (and-right (validObject o n) (validObjects os n) v))
+  objects-depth (objectThen o os) n v = element-depth (objectTree o) (objectsTree os) (7 + 3 * n) (object-depth o n (objects-parts o os n v .first)) (objects-depth os n (objects-parts o os n v .rest))
 
 -- The head.
 abbrev Shallow : ℕ → Option Tree → Type 0

@@ -8,7 +8,6 @@ use native.Mathlib.Omega.{arith}
 use borrow.Author.Tests.{not-true}
 use Rattle.json.specs.Tree.{Tree}
 use Rattle.document.specs.Bytes.{bytes}
-use Rattle.document.specs.Utf8.{isUtf8}
 use Rattle.document.specs.Posology.{Posology, Date, bare, moment}
 use Rattle.document.specs.Date.{isDate}
 use Rattle.document.specs.Lookup.{same, has, orElse, Found, nothing, add, find, repeated, unknown}
@@ -19,6 +18,7 @@ use Rattle.document.specs.Spells.{Meaning, Given, Perhaps, meaningOf, me
 use Rattle.document.specs.Plain.{Slot, fieldOf, membersOf, mapped, textTree, dateTree, reserveTree, whole, headSlots, detailTree, plainTree, dateText}
 use Rattle.json.proofs.Truth.{and-left, and-right}
 use Rattle.document.proofs.Ranges.{in-range}
+use Rattle.document.proofs.DetailParts.{text-parts}
 use Rattle.document.proofs.Parts.{unit-text}
 use Rattle.document.proofs.ValidParts.{valid-parts}
 use Rattle.document.proofs.Written.{whole-means}
@@ -83,7 +83,7 @@ apart-slots seen (s ∷ ss) h = go (s .value) (apart-slots (named s ∷ seen) ss
 text-slot : (u : Option (List ℕ)) → ifGiven isText u ≡ true → Perhaps aText (found true (mapped textTree u) nothing) u
 unfolding meaningOf
 text-slot none v = tt
-text-slot (some cs) v = (not-true (isEmpty cs) (and-left (not (isEmpty cs)) (isUtf8 cs) v), refl)
+text-slot (some cs) v = (text-parts cs v .some, refl)
 
 date-slot : (d : Option Date) → ifGiven isDate d ≡ true → Perhaps (aString date) (found true (mapped dateTree d) nothing) d
 unfolding meaningOf

@@ -1,25 +1,22 @@
 -- The plain tree of a valid posology means it.
 use mathlib.Core.Path.{_≡_, refl, ap, sym}
 use mathlib.Core.List.{List, [], _∷_}
-use mathlib.Core.Bool.{Bool, true, false, not, _&&_, false≢true}
+use mathlib.Core.Bool.{Bool, true, false, not, false≢true}
 use mathlib.Core.Option.{none, some}
-use Prim.Native.Nat.{ℕ, zero, suc, _-_, _≤_, _<_}
+use Prim.Native.Nat.{ℕ, zero, suc, _-_, _≤_}
 use native.Mathlib.Omega.{arith}
-use lib.Dec.{eqb, leb, ltb}
-use borrow.Author.Tests.{leb-true, ltb-true, eqb-true, not-true}
+use lib.Dec.{eqb}
+use borrow.Author.Tests.{leb-true, eqb-true}
 use Rattle.json.specs.Tree.{Tree, object, list, string, number, bool, null, noMember}
-use Rattle.document.specs.Utf8.{isUtf8}
 use Rattle.document.specs.Posology.{Dosage, simple, fromTo, range, AtTime, atTime, InSegment, inSegment, Timed, dosageOnly, times, daySegments, weekDays, daysOfMonth, interval, Detail, daily, freeText, single, cyclic, sequence, SequenceObject, posologySequence, pause, SequenceObjects, noObject, objectThen, ordered, listed}
-use Rattle.document.specs.Date.{among, isSecond}
 use Rattle.document.specs.Schema.{greatestDecimal, greatestInteger, Family, OfFamily, aDetail, aTimed, aDosage, aSequenceObject, anAtTime, anInSegment, integer, aNumber, anObject, days, underSingle, underDays, underCyclic, rowsOf}
-use Rattle.document.specs.Visit.{isEmpty}
-use Rattle.document.specs.Valid.{isAmount, isDuration, isTimeUnit, climbs, isDays, every, validDosage, validAtTime, validInSegment, validTimed, validDetail, validObject, validObjects, someObject}
+use Rattle.document.specs.Valid.{isAmount, isDuration, isTimeUnit, climbs, isDays, every, validDosage, validAtTime, validInSegment, validTimed, validDetail, validObject, validObjects}
 use Rattle.document.specs.Spells.{meaningOf, meantElements, EachMeans, ElementsMean}
 use Rattle.document.specs.Plain as P
 use Rattle.document.specs.Plain.{wholeDigits, dosageTree, daysTree, timesTree, segmentsTree, timedTree, detailTree, objectTree, objectsTree}
-use Rattle.json.proofs.Truth.{and-left, and-right}
 use Rattle.document.proofs.Ranges.{in-range}
-use Rattle.document.proofs.Days.{climbs-parts, climbs-same, climbs-distinct}
+use Rattle.document.proofs.Days.{climbs-parts, climbs-same, climbs-distinct, days-climb}
+use Rattle.document.proofs.DetailParts.{simple-parts, from-to-parts, range-parts, first-time, first-segment, dosage-only-parts, times-parts, segments-parts, week-parts, month-parts, interval-parts, daily-parts, text-parts, cyclic-parts, sequence-parts, posology-sequence-parts, pause-parts, objects-parts}
 use Rattle.document.proofs.Written.{whole-means, amount-means}
 use Rattle.document.proofs.WrittenDates.{time-reads}
 
@@ -32,16 +29,11 @@ unit n v = let h = in-range 1 n 7 v in omega arith
 pub amount : (n : ℕ) → isAmount n ≡ true → n ≤ 999999999999
 amount n v = leb-true n greatestDecimal v
 
-pub lesser : (a b : ℕ) → ltb a b ≡ true → isAmount b ≡ true → a ≤ 999999999999
-lesser a b h v = let p : a < b = ltb-true a b h in let q : b ≤ 999999999999 = amount b v in omega arith
-
 pub dosage-means : (d : Dosage) → validDosage d ≡ true → meaningOf (dosageTree d) .means (anObject aDosage) d
-unfolding meaningOf dosageTree rowsOf validDosage
-dosage-means (simple a) v = (refl, (1, (refl, whole-means 1 3 1 (omega arith)), refl, (refl, (a, (refl, amount-means 1 a (amount a (and-right (ltb 0 a) (isAmount a) v))), refl))))
+unfolding meaningOf dosageTree rowsOf
+dosage-means (simple a) v = (refl, (1, (refl, whole-means 1 3 1 (omega arith)), refl, (refl, (a, (refl, amount-means 1 a (amount a (simple-parts a v .most))), refl))))
 dosage-means (fromTo a b u du) v =
-    let v₁ = and-left (ltb a b && isAmount b && isTimeUnit u) (isDuration du) v in
-    let v₂ = and-left (ltb a b && isAmount b) (isTimeUnit u) v₁ in
-    let most = and-right (ltb a b) (isAmount b) v₂ in (
+    let w = from-to-parts a b u du v in (
       refl,
       (
         2,
@@ -51,14 +43,14 @@ dosage-means (fromTo a b u du) v =
           refl,
           (
             a,
-            (refl, amount-means 0 a (lesser a b (and-left (ltb a b) (isAmount b) v₂) most)),
+            (refl, amount-means 0 a (amount a (w .least))),
             (
               b,
-              (refl, amount-means 0 b (amount b most)),
+              (refl, amount-means 0 b (amount b (w .most))),
               (
                 u,
-                (refl, whole-means 1 7 u (unit u (and-right (ltb a b && isAmount b) (isTimeUnit u) v₁))),
-                (du, (refl, whole-means 1 greatestInteger du (duration du (and-right (ltb a b && isAmount b && isTimeUnit u) (isDuration du) v))), refl),
+                (refl, whole-means 1 7 u (unit u (w .unit))),
+                (du, (refl, whole-means 1 greatestInteger du (duration du (w .duration))), refl),
               ),
             ),
           ),
@@ -66,8 +58,7 @@ dosage-means (fromTo a b u du) v =
       ),
     )
 dosage-means (range a b) v =
-    let v₁ = and-left (ltb 0 a && ltb a b) (isAmount b) v in
-    let most = and-right (ltb 0 a && ltb a b) (isAmount b) v in (
+    let w = range-parts a b v in (
       refl,
       (
         3,
@@ -77,8 +68,8 @@ dosage-means (range a b) v =
           refl,
           (
             a,
-            (refl, amount-means 1 a (lesser a b (and-right (ltb 0 a) (ltb a b) v₁) most)),
-            (b, (refl, amount-means 0 b (amount b most)), refl),
+            (refl, amount-means 1 a (amount a (w .least))),
+            (b, (refl, amount-means 0 b (amount b (w .most))), refl),
           ),
         ),
       ),
@@ -101,19 +92,19 @@ times-mean : (ts : List AtTime) → every validAtTime ts ≡ true → EachMeans 
 unfolding meaningOf rowsOf
 times-mean [] v = tt
 times-mean (atTime d dt ∷ ts) v =
-    let v₁ = and-left (validDosage d && isSecond dt) (every validAtTime ts) v in (
-      (refl, (refl, (d, given-object (dosageTree d) aDosage d (dosage-means d (and-left (validDosage d) (isSecond dt) v₁)), (dt, (refl, time-reads dt (and-right (validDosage d) (isSecond dt) v₁)), refl)))),
-      times-mean ts (and-right (validDosage d && isSecond dt) (every validAtTime ts) v),
+    let w = first-time d dt ts v in (
+      (refl, (refl, (d, given-object (dosageTree d) aDosage d (dosage-means d (w .dosage)), (dt, (refl, time-reads dt (w .time)), refl)))),
+      times-mean ts (w .rest),
     )
 
 segments-mean : (ss : List InSegment) → every validInSegment ss ≡ true → EachMeans (anObject anInSegment) (meantElements (segmentsTree ss)) ss
 unfolding meaningOf rowsOf
 segments-mean [] v = tt
 segments-mean (inSegment d s ∷ ss) v =
-    let v₁ = and-left (validDosage d && (leb 1 s && leb s 4)) (every validInSegment ss) v in
-    let h = in-range 1 s 4 (and-right (validDosage d) (leb 1 s && leb s 4) v₁) in (
-      (refl, (refl, (d, given-object (dosageTree d) aDosage d (dosage-means d (and-left (validDosage d) (leb 1 s && leb s 4) v₁)), (s, (refl, whole-means 1 4 s (omega arith)), refl)))),
-      segments-mean ss (and-right (validDosage d && (leb 1 s && leb s 4)) (every validInSegment ss) v),
+    let w = first-segment d s ss v in
+    let h = in-range 1 s 4 (w .segment) in (
+      (refl, (refl, (d, given-object (dosageTree d) aDosage d (dosage-means d (w .dosage)), (s, (refl, whole-means 1 4 s (omega arith)), refl)))),
+      segments-mean ss (w .rest),
     )
 
 each-day : (hi from : ℕ) (ds : List ℕ) → hi ≤ 28 → climbs from hi ds ≡ true → EachMeans (aNumber (integer 1 hi)) (meantElements (daysTree ds)) ds
@@ -122,22 +113,21 @@ each-day hi from [] h c = tt
 each-day hi from (d ∷ ds) h c = let k = climbs-parts from hi d ds c in (whole-means 1 hi d (omega arith), each-day hi d ds h (k .2))
 
 days-mean : (hi : ℕ) (ds : List ℕ) → hi ≤ 28 → isDays hi ds ≡ true → ElementsMean (days hi) (meantElements (daysTree ds)) ds
-days-mean hi ds h v = let c = and-right (not (isEmpty ds)) (climbs 0 hi ds) v in (ds, each-day hi 0 ds h c, climbs-distinct 0 hi ds c, climbs-same 0 hi ds c)
+days-mean hi ds h v = let c = days-climb hi ds v in (ds, each-day hi 0 ds h c, climbs-distinct 0 hi ds c, climbs-same 0 hi ds c)
 
 pub timed-means : (td : Timed) (ts us : List ℕ) → validTimed td ts ≡ true → meaningOf (timedTree td) .means (anObject (aTimed us)) td
-unfolding meaningOf timedTree rowsOf validTimed
-timed-means (dosageOnly d) ts us v = (refl, (1, (refl, whole-means 1 6 1 (omega arith)), refl, (refl, (d, given-object (dosageTree d) aDosage d (dosage-means d (and-right (among 1 ts) (validDosage d) v)), refl))))
-timed-means (times as′) ts us v = (refl, (2, (refl, whole-means 1 6 2 (omega arith)), refl, (refl, (as′, (refl, times-mean as′ (and-right (among 2 ts) (every validAtTime as′) v)), refl))))
-timed-means (daySegments as′) ts us v = (refl, (3, (refl, whole-means 1 6 3 (omega arith)), refl, (refl, (as′, (refl, segments-mean as′ (and-right (among 3 ts) (every validInSegment as′) v)), refl))))
+unfolding meaningOf timedTree rowsOf
+timed-means (dosageOnly d) ts us v = (refl, (1, (refl, whole-means 1 6 1 (omega arith)), refl, (refl, (d, given-object (dosageTree d) aDosage d (dosage-means d (dosage-only-parts d ts v .dosage)), refl))))
+timed-means (times as′) ts us v = (refl, (2, (refl, whole-means 1 6 2 (omega arith)), refl, (refl, (as′, (refl, times-mean as′ (times-parts as′ ts v .each)), refl))))
+timed-means (daySegments as′) ts us v = (refl, (3, (refl, whole-means 1 6 3 (omega arith)), refl, (refl, (as′, (refl, segments-mean as′ (segments-parts as′ ts v .each)), refl))))
 timed-means (weekDays ds td) ts us v =
-    let v₁ = and-left (among 4 ts && isDays 7 ds) (validTimed td underDays) v in
-    (refl, (4, (refl, whole-means 1 6 4 (omega arith)), refl, (refl, (ds, (refl, days-mean 7 ds (omega arith) (and-right (among 4 ts) (isDays 7 ds) v₁)), (td, given-object (timedTree td) (aTimed underDays) td (timed-means td underDays underDays (and-right (among 4 ts && isDays 7 ds) (validTimed td underDays) v)), refl)))))
+    let w = week-parts ds td ts v in
+    (refl, (4, (refl, whole-means 1 6 4 (omega arith)), refl, (refl, (ds, (refl, days-mean 7 ds (omega arith) (w .days)), (td, given-object (timedTree td) (aTimed underDays) td (timed-means td underDays underDays (w .timed)), refl)))))
 timed-means (daysOfMonth ds td) ts us v =
-    let v₁ = and-left (among 5 ts && isDays 28 ds) (validTimed td underDays) v in
-    (refl, (5, (refl, whole-means 1 6 5 (omega arith)), refl, (refl, (ds, (refl, days-mean 28 ds (omega arith) (and-right (among 5 ts) (isDays 28 ds) v₁)), (td, given-object (timedTree td) (aTimed underDays) td (timed-means td underDays underDays (and-right (among 5 ts && isDays 28 ds) (validTimed td underDays) v)), refl)))))
+    let w = month-parts ds td ts v in
+    (refl, (5, (refl, whole-means 1 6 5 (omega arith)), refl, (refl, (ds, (refl, days-mean 28 ds (omega arith) (w .days)), (td, given-object (timedTree td) (aTimed underDays) td (timed-means td underDays underDays (w .timed)), refl)))))
 timed-means (interval d du u) ts us v =
-    let v₁ = and-left (among 6 ts && validDosage d && isDuration du) (isTimeUnit u) v in
-    let v₂ = and-left (among 6 ts && validDosage d) (isDuration du) v₁ in (
+    let w = interval-parts d du u ts v in (
       refl,
       (
         6,
@@ -147,11 +137,11 @@ timed-means (interval d du u) ts us v =
           refl,
           (
             d,
-            given-object (dosageTree d) aDosage d (dosage-means d (and-right (among 6 ts) (validDosage d) v₂)),
+            given-object (dosageTree d) aDosage d (dosage-means d (w .dosage)),
             (
               du,
-              (refl, whole-means 1 greatestInteger du (duration du (and-right (among 6 ts && validDosage d) (isDuration du) v₁))),
-              (u, (refl, whole-means 1 7 u (unit u (and-right (among 6 ts && validDosage d && isDuration du) (isTimeUnit u) v))), refl),
+              (refl, whole-means 1 greatestInteger du (duration du (w .duration))),
+              (u, (refl, whole-means 1 7 u (unit u (w .unit))), refl),
             ),
           ),
         ),
@@ -222,8 +212,7 @@ mutual
 
   pub detail-means : (d : Detail) (n : ℕ) (m : ℕ) → validDetail d n ≡ true → meaningOf (detailTree d) .means (anObject (aDetail m)) d
   detail-means (daily a b c d) n m v =
-      let v₁ = and-left (isAmount a && isAmount b && isAmount c) (isAmount d) v in
-      let v₂ = and-left (isAmount a && isAmount b) (isAmount c) v₁ in (
+      let w = daily-parts a b c d n v in (
         refl,
         (
           1,
@@ -233,24 +222,23 @@ mutual
             refl,
             (
               record { morning = a; noon = b; evening = c; night = d },
-              (refl, (amount-means 0 a (amount a (and-left (isAmount a) (isAmount b) v₂)), (amount-means 0 b (amount b (and-right (isAmount a) (isAmount b) v₂)), (amount-means 0 c (amount c (and-right (isAmount a && isAmount b) (isAmount c) v₁)), (amount-means 0 d (amount d (and-right (isAmount a && isAmount b && isAmount c) (isAmount d) v)), tt))))),
+              (refl, (amount-means 0 a (amount a (w .morning)), (amount-means 0 b (amount b (w .noon)), (amount-means 0 c (amount c (w .evening)), (amount-means 0 d (amount d (w .night)), tt))))),
               refl,
             ),
           ),
         ),
       )
-  detail-means (freeText cs) n m v = (refl, (2, (refl, whole-means 1 5 2 (omega arith)), refl, (refl, (cs, (not-true (isEmpty cs) (and-left (not (isEmpty cs)) (isUtf8 cs) v), refl), refl))))
+  detail-means (freeText cs) n m v = (refl, (2, (refl, whole-means 1 5 2 (omega arith)), refl, (refl, (cs, (text-parts cs v .some, refl), refl))))
   detail-means (single td) n m v = (refl, (3, (refl, whole-means 1 5 3 (omega arith)), refl, (refl, (td, given-object (timedTree td) (aTimed underSingle) td (timed-means td underSingle underSingle v), refl))))
   detail-means (cyclic u du td per) n m v =
-      let v₁ = and-left (isTimeUnit u && isDuration du && validTimed td (underCyclic u)) (isDuration per) v in
-      let v₂ = and-left (isTimeUnit u && isDuration du) (validTimed td (underCyclic u)) v₁ in
-      cyclic-means u du td per m (eqb per 1) refl (and-left (isTimeUnit u) (isDuration du) v₂) (and-right (isTimeUnit u) (isDuration du) v₂) (and-right (isTimeUnit u && isDuration du) (validTimed td (underCyclic u)) v₁) (and-right (isTimeUnit u && isDuration du && validTimed td (underCyclic u)) (isDuration per) v)
+      let w = cyclic-parts u du td per n v in
+      cyclic-means u du td per m (eqb per 1) refl (w .unit) (w .duration) (w .timed) (w .per)
   detail-means (sequence os) zero m v = absurd (false≢true v)
-  detail-means (sequence os) (suc n) m v = (refl, (5, (refl, whole-means 1 5 5 (omega arith)), refl, (refl, (listed os, (refl, objects-mean os n (m - 1) (and-right (someObject os) (validObjects os n) v)), ap sequence (ordered-listed os)))))
+  detail-means (sequence os) (suc n) m v = (refl, (5, (refl, whole-means 1 5 5 (omega arith)), refl, (refl, (listed os, (refl, objects-mean os n (m - 1) (sequence-parts os n v .objects)), ap sequence (ordered-listed os)))))
 
   pub object-means : (o : SequenceObject) (n : ℕ) (m : ℕ) → validObject o n ≡ true → meaningOf (objectTree o) .means (anObject (aSequenceObject m)) o
   object-means (posologySequence du u po) n m v =
-      let v₁ = and-left (isDuration du && isTimeUnit u) (validDetail po n) v in (
+      let w = posology-sequence-parts du u po n v in (
         refl,
         (
           1,
@@ -260,11 +248,11 @@ mutual
             refl,
             (
               du,
-              (refl, whole-means 1 greatestInteger du (duration du (and-left (isDuration du) (isTimeUnit u) v₁))),
+              (refl, whole-means 1 greatestInteger du (duration du (w .duration))),
               (
                 u,
-                (refl, whole-means 1 7 u (unit u (and-right (isDuration du) (isTimeUnit u) v₁))),
-                (po, given-object (detailTree po) (aDetail m) po (detail-means po n m (and-right (isDuration du && isTimeUnit u) (validDetail po n) v)), refl),
+                (refl, whole-means 1 7 u (unit u (w .unit))),
+                (po, given-object (detailTree po) (aDetail m) po (detail-means po n m (w .detail)), refl),
               ),
             ),
           ),
@@ -280,8 +268,8 @@ mutual
         refl,
         (
           du,
-          (refl, whole-means 1 greatestInteger du (duration du (and-left (isDuration du) (isTimeUnit u) v))),
-          (u, (refl, whole-means 1 7 u (unit u (and-right (isDuration du) (isTimeUnit u) v))), refl),
+          (refl, whole-means 1 greatestInteger du (duration du (pause-parts du u n v .duration))),
+          (u, (refl, whole-means 1 7 u (unit u (pause-parts du u n v .unit))), refl),
         ),
       ),
     ),
@@ -289,4 +277,4 @@ mutual
 
   objects-mean : (os : SequenceObjects) (n : ℕ) (m : ℕ) → validObjects os n ≡ true → EachMeans (anObject (aSequenceObject m)) (meantElements (objectsTree os)) (listed os)
   objects-mean noObject n m v = tt
-  objects-mean (objectThen o os) n m v = (object-means o n m (and-left (validObject o n) (validObjects os n) v), objects-mean os n m (and-right (validObject o n) (validObjects os n) v))
+  objects-mean (objectThen o os) n m v = let w = objects-parts o os n v in (object-means o n m (w .first), objects-mean os n m (w .rest))

@@ -3,27 +3,27 @@ use Prim.Native.Nat.{ℕ, zero, suc, _+_, _/_, _%_, _≤_, _<_}
 use Prim.Native.String.{String}
 use mathlib.Core.Path.{_≡_, refl}
 use mathlib.Core.List.{List, [], _∷_}
-use mathlib.Core.Bool.{Bool, true, false, not, _&&_, false≢true}
+use mathlib.Core.Bool.{Bool, true, false, not, false≢true}
 use mathlib.Core.Option.{Option, none, some}
 use native.Mathlib.Omega.{arith}
-use lib.Dec.{eqb, leb, ltb}
+use lib.Dec.{eqb}
 use borrow.Author.Tests.{leb-true, lt-ltb}
 use Rattle.json.specs.Rows.{look}
 use Rattle.json.specs.Tree.{Tree, Members, noMember}
 use Rattle.document.specs.Bytes.{bytes}
 use Rattle.document.specs.Utf8.{wellFormed, isUtf8}
 use Rattle.document.specs.Posology.{Posology, Day, Zone, east, west, Date, bare, moment, Dosage, simple, fromTo, range, AtTime, atTime, InSegment, inSegment, Timed, dosageOnly, times, daySegments, weekDays, daysOfMonth, interval, Detail, daily, freeText, single, cyclic, sequence, SequenceObject, posologySequence, pause, SequenceObjects, noObject, objectThen}
-use Rattle.document.specs.Date.{among, isDay, isSecond, isZone, isDate}
+use Rattle.document.specs.Date.{isDay, isSecond, isZone, isDate}
 use Rattle.document.specs.Schema.{mealCodes, sequencesInside, underSingle, underDays, underCyclic}
-use Rattle.document.specs.Visit.{isEmpty}
-use Rattle.document.specs.Valid.{isAmount, isDuration, isTimeUnit, isText, climbs, isDays, every, isMeal, isUnitFor, ifGiven, validDosage, validAtTime, validInSegment, validTimed, validDetail, validObject, validObjects, someObject, valid}
+use Rattle.document.specs.Valid.{isDuration, isText, climbs, isDays, every, isMeal, ifGiven, validDosage, validAtTime, validInSegment, validTimed, validDetail, validObject, validObjects, valid}
 use Rattle.document.specs.Plain.{two, clock, timeText, dayText, zoneText, dateText, fieldIf, whole, textTree, dosageTree, daysTree, timesTree, segmentsTree, timedTree, detailTree, objectTree, objectsTree, Slot, fieldOf, membersOf, mapped, dateTree, reserveTree, headSlots}
-use Rattle.json.proofs.Truth.{and-left, and-right}
 use Rattle.document.proofs.Ranges.{in-range}
-use Rattle.document.proofs.Days.{climbs-parts}
+use Rattle.document.proofs.Days.{climbs-parts, days-climb}
+use Rattle.document.proofs.DetailParts.{simple-parts, from-to-parts, range-parts, first-time, first-segment, dosage-only-parts, times-parts, segments-parts, week-parts, month-parts, interval-parts, daily-parts, text-parts, cyclic-parts, sequence-parts, posology-sequence-parts, pause-parts, objects-parts}
+use Rattle.document.proofs.Parts.{unit-text}
 use Rattle.document.proofs.ValidParts.{valid-parts}
-use Rattle.document.proofs.WrittenDates.{small-day}
-use Rattle.document.proofs.PlainMeans.{duration, unit, amount, lesser}
+use Rattle.document.proofs.WrittenDates.{small-day, moment-parts}
+use Rattle.document.proofs.PlainMeans.{duration, unit, amount}
 use Rattle.document.proofs.Numerals.{whole-numeral, amount-numeral}
 use Rattle.document.proofs.PlainSpells.{Spellable, SpellableMembers, SpellableElements}
 
@@ -65,34 +65,31 @@ zone-ascii (west n) v = let h = in-range 1 n 840 v in ascii-first 45 (clock n []
 date-ascii : (d : Date) → isDate d ≡ true → isUtf8 (dateText d) ≡ true
 date-ascii (bare d) v = day-ascii d [] v no-byte
 date-ascii (moment d s z) v =
-    let v₁ = and-left (isDay d && isSecond s) (isZone z) v in
-    day-ascii d (84 ∷ timeText s (zoneText z)) (and-left (isDay d) (isSecond s) v₁)
-    (ascii-first 84 (timeText s (zoneText z)) (omega arith) (time-ascii s (zoneText z) (and-right (isDay d) (isSecond s) v₁) (zone-ascii z (and-right (isDay d && isSecond s) (isZone z) v))))
+    let w = moment-parts d s z v in
+    day-ascii d (84 ∷ timeText s (zoneText z)) (w .day) (ascii-first 84 (timeText s (zoneText z)) (omega arith) (time-ascii s (zoneText z) (w .second) (zone-ascii z (w .zone))))
 
 -- Dosages.
 dosage-spells : (d : Dosage) → validDosage d ≡ true → Spellable (dosageTree d)
-unfolding dosageTree validDosage Spellable isUtf8 wellFormed look
-dosage-spells (simple a) v = (refl, (whole-numeral 1 (omega arith), (refl, (amount-numeral a (amount a (and-right (ltb 0 a) (isAmount a) v)), tt))))
+unfolding dosageTree Spellable isUtf8 wellFormed look
+dosage-spells (simple a) v = (refl, (whole-numeral 1 (omega arith), (refl, (amount-numeral a (amount a (simple-parts a v .most)), tt))))
 dosage-spells (fromTo a b u du) v =
-    let v₁ = and-left (ltb a b && isAmount b && isTimeUnit u) (isDuration du) v in
-    let v₂ = and-left (ltb a b && isAmount b) (isTimeUnit u) v₁ in
-    let most = and-right (ltb a b) (isAmount b) v₂ in (
+    let w = from-to-parts a b u du v in (
       refl,
       (
         whole-numeral 2 (omega arith),
         (
           refl,
           (
-            amount-numeral a (lesser a b (and-left (ltb a b) (isAmount b) v₂) most),
+            amount-numeral a (amount a (w .least)),
             (
               refl,
               (
-                amount-numeral b (amount b most),
+                amount-numeral b (amount b (w .most)),
                 (
                   refl,
                   (
-                    whole-numeral u (unit u (and-right (ltb a b && isAmount b) (isTimeUnit u) v₁)),
-                    (refl, (whole-numeral du (duration du (and-right (ltb a b && isAmount b && isTimeUnit u) (isDuration du) v)), tt)),
+                    whole-numeral u (unit u (w .unit)),
+                    (refl, (whole-numeral du (duration du (w .duration)), tt)),
                   ),
                 ),
               ),
@@ -102,24 +99,23 @@ dosage-spells (fromTo a b u du) v =
       ),
     )
 dosage-spells (range a b) v =
-    let v₁ = and-left (ltb 0 a && ltb a b) (isAmount b) v in
-    let most = and-right (ltb 0 a && ltb a b) (isAmount b) v in
-    (refl, (whole-numeral 3 (omega arith), (refl, (amount-numeral a (lesser a b (and-right (ltb 0 a) (ltb a b) v₁) most), (refl, (amount-numeral b (amount b most), tt))))))
+    let w = range-parts a b v in
+    (refl, (whole-numeral 3 (omega arith), (refl, (amount-numeral a (amount a (w .least)), (refl, (amount-numeral b (amount b (w .most)), tt))))))
 
 times-spell : (ts : List AtTime) → every validAtTime ts ≡ true → SpellableElements (timesTree ts)
 unfolding Spellable isUtf8 wellFormed look
 times-spell [] v = tt
 times-spell (atTime d dt ∷ ts) v =
-    let v₁ = and-left (validDosage d && isSecond dt) (every validAtTime ts) v in
-    ((refl, (dosage-spells d (and-left (validDosage d) (isSecond dt) v₁), (refl, (time-ascii dt [] (and-right (validDosage d) (isSecond dt) v₁) no-byte, tt)))), times-spell ts (and-right (validDosage d && isSecond dt) (every validAtTime ts) v))
+    let w = first-time d dt ts v in
+    ((refl, (dosage-spells d (w .dosage), (refl, (time-ascii dt [] (w .time) no-byte, tt)))), times-spell ts (w .rest))
 
 segments-spell : (ss : List InSegment) → every validInSegment ss ≡ true → SpellableElements (segmentsTree ss)
 unfolding Spellable isUtf8 wellFormed look
 segments-spell [] v = tt
 segments-spell (inSegment d s ∷ ss) v =
-    let v₁ = and-left (validDosage d && (leb 1 s && leb s 4)) (every validInSegment ss) v in
-    let h = in-range 1 s 4 (and-right (validDosage d) (leb 1 s && leb s 4) v₁) in
-    ((refl, (dosage-spells d (and-left (validDosage d) (leb 1 s && leb s 4) v₁), (refl, (whole-numeral s (omega arith), tt)))), segments-spell ss (and-right (validDosage d && (leb 1 s && leb s 4)) (every validInSegment ss) v))
+    let w = first-segment d s ss v in
+    let h = in-range 1 s 4 (w .segment) in
+    ((refl, (dosage-spells d (w .dosage), (refl, (whole-numeral s (omega arith), tt)))), segments-spell ss (w .rest))
 
 each-day : (hi from : ℕ) (ds : List ℕ) → hi ≤ 28 → climbs from hi ds ≡ true → SpellableElements (daysTree ds)
 unfolding Spellable
@@ -127,34 +123,33 @@ each-day hi from [] h c = tt
 each-day hi from (d ∷ ds) h c = let k = climbs-parts from hi d ds c in (whole-numeral d (omega arith), each-day hi d ds h (k .2))
 
 days-spell : (hi : ℕ) (ds : List ℕ) → hi ≤ 28 → isDays hi ds ≡ true → SpellableElements (daysTree ds)
-days-spell hi ds h v = each-day hi 0 ds h (and-right (not (isEmpty ds)) (climbs 0 hi ds) v)
+days-spell hi ds h v = each-day hi 0 ds h (days-climb hi ds v)
 
 timed-spells : (td : Timed) (ts : List ℕ) → validTimed td ts ≡ true → Spellable (timedTree td)
-unfolding timedTree validTimed Spellable isUtf8 wellFormed look
-timed-spells (dosageOnly d) ts v = (refl, (whole-numeral 1 (omega arith), (refl, (dosage-spells d (and-right (among 1 ts) (validDosage d) v), tt))))
-timed-spells (times as′) ts v = (refl, (whole-numeral 2 (omega arith), (refl, (times-spell as′ (and-right (among 2 ts) (every validAtTime as′) v), tt))))
-timed-spells (daySegments as′) ts v = (refl, (whole-numeral 3 (omega arith), (refl, (segments-spell as′ (and-right (among 3 ts) (every validInSegment as′) v), tt))))
+unfolding timedTree Spellable isUtf8 wellFormed look
+timed-spells (dosageOnly d) ts v = (refl, (whole-numeral 1 (omega arith), (refl, (dosage-spells d (dosage-only-parts d ts v .dosage), tt))))
+timed-spells (times as′) ts v = (refl, (whole-numeral 2 (omega arith), (refl, (times-spell as′ (times-parts as′ ts v .each), tt))))
+timed-spells (daySegments as′) ts v = (refl, (whole-numeral 3 (omega arith), (refl, (segments-spell as′ (segments-parts as′ ts v .each), tt))))
 timed-spells (weekDays ds td) ts v =
-    let v₁ = and-left (among 4 ts && isDays 7 ds) (validTimed td underDays) v in
-    (refl, (whole-numeral 4 (omega arith), (refl, (days-spell 7 ds (omega arith) (and-right (among 4 ts) (isDays 7 ds) v₁), (refl, (timed-spells td underDays (and-right (among 4 ts && isDays 7 ds) (validTimed td underDays) v), tt))))))
+    let w = week-parts ds td ts v in
+    (refl, (whole-numeral 4 (omega arith), (refl, (days-spell 7 ds (omega arith) (w .days), (refl, (timed-spells td underDays (w .timed), tt))))))
 timed-spells (daysOfMonth ds td) ts v =
-    let v₁ = and-left (among 5 ts && isDays 28 ds) (validTimed td underDays) v in
-    (refl, (whole-numeral 5 (omega arith), (refl, (days-spell 28 ds (omega arith) (and-right (among 5 ts) (isDays 28 ds) v₁), (refl, (timed-spells td underDays (and-right (among 5 ts && isDays 28 ds) (validTimed td underDays) v), tt))))))
+    let w = month-parts ds td ts v in
+    (refl, (whole-numeral 5 (omega arith), (refl, (days-spell 28 ds (omega arith) (w .days), (refl, (timed-spells td underDays (w .timed), tt))))))
 timed-spells (interval d du u) ts v =
-    let v₁ = and-left (among 6 ts && validDosage d && isDuration du) (isTimeUnit u) v in
-    let v₂ = and-left (among 6 ts && validDosage d) (isDuration du) v₁ in (
+    let w = interval-parts d du u ts v in (
       refl,
       (
         whole-numeral 6 (omega arith),
         (
           refl,
           (
-            dosage-spells d (and-right (among 6 ts) (validDosage d) v₂),
+            dosage-spells d (w .dosage),
             (
               refl,
               (
-                whole-numeral du (duration du (and-right (among 6 ts && validDosage d) (isDuration du) v₁)),
-                (refl, (whole-numeral u (unit u (and-right (among 6 ts && validDosage d && isDuration du) (isTimeUnit u) v)), tt)),
+                whole-numeral du (duration du (w .duration)),
+                (refl, (whole-numeral u (unit u (w .unit)), tt)),
               ),
             ),
           ),
@@ -173,41 +168,39 @@ mutual
 
   detail-spells : (d : Detail) (n : ℕ) → validDetail d n ≡ true → Spellable (detailTree d)
   detail-spells (daily a b c d) n v =
-      let v₁ = and-left (isAmount a && isAmount b && isAmount c) (isAmount d) v in
-      let v₂ = and-left (isAmount a && isAmount b) (isAmount c) v₁ in (
+      let w = daily-parts a b c d n v in (
         refl,
         (
           whole-numeral 1 (omega arith),
           (
             refl,
             (
-              (amount-numeral a (amount a (and-left (isAmount a) (isAmount b) v₂)), (amount-numeral b (amount b (and-right (isAmount a) (isAmount b) v₂)), (amount-numeral c (amount c (and-right (isAmount a && isAmount b) (isAmount c) v₁)), (amount-numeral d (amount d (and-right (isAmount a && isAmount b && isAmount c) (isAmount d) v)), tt)))),
+              (amount-numeral a (amount a (w .morning)), (amount-numeral b (amount b (w .noon)), (amount-numeral c (amount c (w .evening)), (amount-numeral d (amount d (w .night)), tt)))),
               tt,
             ),
           ),
         ),
       )
-  detail-spells (freeText cs) n v = (refl, (whole-numeral 2 (omega arith), (refl, (and-right (not (isEmpty cs)) (isUtf8 cs) v, tt))))
+  detail-spells (freeText cs) n v = (refl, (whole-numeral 2 (omega arith), (refl, (text-parts cs v .utf8, tt))))
   detail-spells (single td) n v = (refl, (whole-numeral 3 (omega arith), (refl, (timed-spells td underSingle v, tt))))
   detail-spells (cyclic u du td per) n v =
-      let v₁ = and-left (isTimeUnit u && isDuration du && validTimed td (underCyclic u)) (isDuration per) v in
-      let v₂ = and-left (isTimeUnit u && isDuration du) (validTimed td (underCyclic u)) v₁ in (
+      let w = cyclic-parts u du td per n v in (
         refl,
         (
           whole-numeral 4 (omega arith),
           (
             refl,
             (
-              whole-numeral u (unit u (and-left (isTimeUnit u) (isDuration du) v₂)),
+              whole-numeral u (unit u (w .unit)),
               (
                 refl,
                 (
-                  whole-numeral du (duration du (and-right (isTimeUnit u) (isDuration du) v₂)),
+                  whole-numeral du (duration du (w .duration)),
                   (
                     refl,
                     (
-                      timed-spells td (underCyclic u) (and-right (isTimeUnit u && isDuration du) (validTimed td (underCyclic u)) v₁),
-                      last-spells (not (eqb per 1)) per (and-right (isTimeUnit u && isDuration du && validTimed td (underCyclic u)) (isDuration per) v),
+                      timed-spells td (underCyclic u) (w .timed),
+                      last-spells (not (eqb per 1)) per (w .per),
                     ),
                   ),
                 ),
@@ -217,34 +210,36 @@ mutual
         ),
       )
   detail-spells (sequence os) zero v = absurd (false≢true v)
-  detail-spells (sequence os) (suc n) v = (refl, (whole-numeral 5 (omega arith), (refl, (objects-spell os n (and-right (someObject os) (validObjects os n) v), tt))))
+  detail-spells (sequence os) (suc n) v = (refl, (whole-numeral 5 (omega arith), (refl, (objects-spell os n (sequence-parts os n v .objects), tt))))
 
   object-spells : (o : SequenceObject) (n : ℕ) → validObject o n ≡ true → Spellable (objectTree o)
   object-spells (posologySequence du u po) n v =
-      let v₁ = and-left (isDuration du && isTimeUnit u) (validDetail po n) v in (
+      let w = posology-sequence-parts du u po n v in (
         refl,
         (
           whole-numeral 1 (omega arith),
           (
             refl,
             (
-              whole-numeral du (duration du (and-left (isDuration du) (isTimeUnit u) v₁)),
+              whole-numeral du (duration du (w .duration)),
               (
                 refl,
                 (
-                  whole-numeral u (unit u (and-right (isDuration du) (isTimeUnit u) v₁)),
-                  (refl, (detail-spells po n (and-right (isDuration du && isTimeUnit u) (validDetail po n) v), tt)),
+                  whole-numeral u (unit u (w .unit)),
+                  (refl, (detail-spells po n (w .detail), tt)),
                 ),
               ),
             ),
           ),
         ),
       )
-  object-spells (pause du u) n v = (refl, (whole-numeral 2 (omega arith), (refl, (whole-numeral du (duration du (and-left (isDuration du) (isTimeUnit u) v)), (refl, (whole-numeral u (unit u (and-right (isDuration du) (isTimeUnit u) v)), tt))))))
+  object-spells (pause du u) n v =
+      let w = pause-parts du u n v in
+      (refl, (whole-numeral 2 (omega arith), (refl, (whole-numeral du (duration du (w .duration)), (refl, (whole-numeral u (unit u (w .unit)), tt))))))
 
   objects-spell : (os : SequenceObjects) (n : ℕ) → validObjects os n ≡ true → SpellableElements (objectsTree os)
   objects-spell noObject n v = tt
-  objects-spell (objectThen o os) n v = (object-spells o n (and-left (validObject o n) (validObjects os n) v), objects-spell os n (and-right (validObject o n) (validObjects os n) v))
+  objects-spell (objectThen o os) n v = let w = objects-parts o os n v in (object-spells o n (w .first), objects-spell os n (w .rest))
 
 -- The head.
 abbrev SpellableIf : Option Tree → Type 0
@@ -283,12 +278,7 @@ meal-slot (some m) v = let h = in-range 1 m mealCodes v in whole-numeral m (omeg
 text-slot : (o : Option (List ℕ)) → ifGiven isText o ≡ true → SpellableIf (mapped textTree o)
 unfolding Spellable
 text-slot none v = tt
-text-slot (some cs) v = and-right (not (isEmpty cs)) (isUtf8 cs) v
-
-unit-slot : (purpose : ℕ) (o : Option (List ℕ)) → isUnitFor purpose o ≡ true → SpellableIf (mapped textTree o)
-unfolding Spellable
-unit-slot purpose none v = tt
-unit-slot purpose (some cs) v = and-right (not (isEmpty cs)) (isUtf8 cs) v
+text-slot (some cs) v = text-parts cs v .utf8
 
 pub plain-spellable : (purpose : ℕ) (p : Posology) → valid purpose p ≡ true → SpellableMembers (membersOf (headSlots p))
 unfolding isUtf8 wellFormed look
@@ -317,7 +307,7 @@ plain-spellable purpose p v =
                         (
                           refl,
                           (
-                            unit-slot purpose (p .unit) (n .unit),
+                            text-slot (p .unit) (unit-text purpose (p .unit) (n .unit)),
                             (refl, (text-slot (p .applInstr) (n .instructions), (refl, (text-slot (p .roa) (n .roa), (refl, (text-slot (p .moa) (n .moa), tt)))))),
                           ),
                         ),

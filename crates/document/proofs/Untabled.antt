@@ -1,17 +1,16 @@
 -- The table of a valid posology, with its strings first in the buffer, stands for it.
 use mathlib.Core.Path.{_≡_, refl, ap, sym, _∙_}
 use mathlib.Core.List.{List, [], _∷_, _++_, append-assoc}
-use mathlib.Core.Bool.{Bool, true, false, cond, not, true≢false}
+use mathlib.Core.Bool.{Bool, true, false, cond, true≢false}
 use mathlib.Core.Option.{Option, none, some, Option·getD}
 use Prim.Native.Nat.{ℕ, zero, suc, _+_, _-_, _≤_}
 use native.Mathlib.Omega.{arith}
 use lib.Dec.{eqb}
 use lib.ListN.{length, replicate, length-append}
-use borrow.Author.Tests.{ne-eqb, not-true}
+use borrow.Author.Tests.{ne-eqb}
 use Rattle.document.specs.Posology as P
 use Rattle.document.specs.Posology.{Posology, AtTime, InSegment, Timed, Detail, SequenceObject, SequenceObjects}
 use Rattle.document.specs.Date.{inOrder}
-use Rattle.document.specs.Utf8.{isUtf8}
 use Rattle.document.specs.Schema.{mealCodes, sequencesInside}
 use Rattle.document.specs.Visit.{isEmpty}
 use Rattle.document.specs.Valid.{isText, isMeal, ifGiven, valid, validDetail, timedRecords, detailRecords, objectRecords, objectsRecords, given, detailStrings, objectStrings, strings}
@@ -20,8 +19,8 @@ use Rattle.document.specs.Words.{allWords}
 use Rattle.document.specs.Untable.{Grown, part, detailNext, textOf, dateOf, mealOf, posologyOf}
 use Rattle.document.specs.declared.table.Date.{Date}
 use Rattle.document.specs.declared.table.Record.{Record}
-use Rattle.json.proofs.Truth.{and-left}
 use Rattle.document.proofs.Ranges.{in-range}
+use Rattle.document.proofs.DetailParts.{text-parts}
 use Rattle.document.proofs.Parts.{unit-text}
 use Rattle.document.proofs.ValidParts.{valid-parts, few-records}
 use Rattle.document.proofs.Untables.{joined-append, detail-append, part-back, detail-back}
@@ -145,7 +144,7 @@ not-empty (c ∷ cs) h = ne-eqb (suc (length cs)) 0 (λ e. omega arith)
 text-back : (buffer pre post : List ℕ) (u : Option (List ℕ)) (at : ℕ) → buffer ≡ pre ++ (bytesOf u ++ post) → length pre ≡ at → ifGiven isText u ≡ true → textOf buffer (textCell at u) ≡ u
 text-back buffer pre post none at e f v = refl
 text-back buffer pre post (some cs) at e f v =
-    ap (λ (b : Bool). cond b none (some (part buffer at (length cs)))) (not-empty cs (not-true (isEmpty cs) (and-left (not (isEmpty cs)) (isUtf8 cs) v)))
+    ap (λ (b : Bool). cond b none (some (part buffer at (length cs)))) (not-empty cs (text-parts cs v .some))
     ∙ ap some (part-back buffer pre cs post at e f)
 
 meal-back : (m : Option ℕ) → ifGiven isMeal m ≡ true → mealOf (Option·getD m 0) ≡ m

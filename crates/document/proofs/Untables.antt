@@ -1,21 +1,20 @@
 -- The records of a posology stand for it.
 use mathlib.Core.Path.{_≡_, refl, ap, sym, _∙_}
 use mathlib.Core.List.{List, [], _∷_, _++_, append-assoc, append-nil}
-use mathlib.Core.Bool.{true, _&&_, false≢true}
+use mathlib.Core.Bool.{true, false≢true}
 use Prim.Native.Nat.{ℕ, zero, suc, _+_, _-_, _/_, _≤_}
 use native.Mathlib.Omega.{arith}
 use lib.ListN.{length, take, drop, length-append}
 use lib.Seq.{take-at, drop-at}
 use Rattle.document.specs.Posology as P
 use Rattle.document.specs.Posology.{Dosage, AtTime, InSegment, Timed, Detail, SequenceObject, SequenceObjects}
-use Rattle.document.specs.Date.{among}
 use Rattle.document.specs.Schema.{underDays, underSingle, underCyclic}
-use Rattle.document.specs.Valid.{isDays, isDuration, isTimeUnit, validTimed, validDetail, validObject, validObjects, someObject, detailRecords, objectRecords, objectsRecords, joined, detailStrings, objectStrings, objectsStrings}
+use Rattle.document.specs.Valid.{validTimed, validDetail, validObject, validObjects, detailRecords, objectRecords, objectsRecords, joined, detailStrings, objectStrings, objectsStrings}
 use Rattle.document.specs.Table.{dosageRow, timesRows, segmentsRows, timedRows, detailRows, objectRows, objectsRows, daySet}
 use Rattle.document.specs.Words.{recordWords, allWords}
 use Rattle.document.specs.Untable.{Grown, grown, within, dosageOf, daysOf, timesNext, segmentsNext, timedNext, part, detailNext, objectsNext, andThen}
 use Rattle.document.specs.declared.table.Record.{Record}
-use Rattle.json.proofs.Truth.{and-left, and-right}
+use Rattle.document.proofs.DetailParts.{week-parts, month-parts, cyclic-parts, sequence-parts, posology-sequence-parts, objects-parts}
 use Rattle.document.proofs.DaySets.{set-back}
 
 dosage-back : (d : Dosage) → dosageOf (recordWords (dosageRow d)) ≡ d
@@ -51,18 +50,18 @@ flat-back n (P.daysOfMonth ds td) k v = absurd (false≢true v)
 flat-back n (P.interval d du u) k v = absurd (false≢true v)
 
 timed-back : (td : Timed) (ts : List ℕ) (k : List Record) → validTimed td ts ≡ true → timedNext 2 (allWords (timedRows td k)) ≡ grown td (allWords k)
-unfolding timedNext timedRows validTimed
+unfolding timedNext timedRows
 timed-back (P.dosageOnly d) ts k v = ap (λ (e : Dosage). grown (P.dosageOnly e) (allWords k)) (dosage-back d)
 timed-back (P.times as′) ts k v = ap (λ (m : ℕ). within P.times (timesNext m (allWords (timesRows as′ k)))) (half (length as′)) ∙ ap (within P.times) (times-back as′ k)
 timed-back (P.daySegments as′) ts k v = ap (λ (m : ℕ). within P.daySegments (segmentsNext m (allWords (segmentsRows as′ k)))) (half (length as′)) ∙ ap (within P.daySegments) (segments-back as′ k)
 timed-back (P.weekDays ds td) ts k v =
-    let v₁ = and-left (among 4 ts && isDays 7 ds) (validTimed td underDays) v in
-    ap (within (λ (t : Timed). P.weekDays (daysOf 7 1 (daySet ds)) t)) (flat-back 0 td k (and-right (among 4 ts && isDays 7 ds) (validTimed td underDays) v))
-    ∙ ap (λ (e : List ℕ). grown (P.weekDays e td) (allWords k)) (set-back 7 ds (and-right (among 4 ts) (isDays 7 ds) v₁))
+    let w = week-parts ds td ts v in
+    ap (within (λ (t : Timed). P.weekDays (daysOf 7 1 (daySet ds)) t)) (flat-back 0 td k (w .timed))
+    ∙ ap (λ (e : List ℕ). grown (P.weekDays e td) (allWords k)) (set-back 7 ds (w .days))
 timed-back (P.daysOfMonth ds td) ts k v =
-    let v₁ = and-left (among 5 ts && isDays 28 ds) (validTimed td underDays) v in
-    ap (within (λ (t : Timed). P.daysOfMonth (daysOf 28 1 (daySet ds)) t)) (flat-back 0 td k (and-right (among 5 ts && isDays 28 ds) (validTimed td underDays) v))
-    ∙ ap (λ (e : List ℕ). grown (P.daysOfMonth e td) (allWords k)) (set-back 28 ds (and-right (among 5 ts) (isDays 28 ds) v₁))
+    let w = month-parts ds td ts v in
+    ap (within (λ (t : Timed). P.daysOfMonth (daysOf 28 1 (daySet ds)) t)) (flat-back 0 td k (w .timed))
+    ∙ ap (λ (e : List ℕ). grown (P.daysOfMonth e td) (allWords k)) (set-back 28 ds (w .days))
 timed-back (P.interval d du u) ts k v = ap (λ (e : Dosage). grown (P.interval e du u) (allWords k)) (dosage-back d)
 
 -- Strings in front of others.
@@ -120,12 +119,10 @@ module _ (buffer : List ℕ) where
     detail-back (P.single td) zero m at k pre post e f v h = absurd (omega arith)
     detail-back (P.single td) (suc n) m at k pre post e f v h = ap (within P.single) (timed-back td underSingle k v)
     detail-back (P.cyclic u du td per) zero m at k pre post e f v h = absurd (omega arith)
-    detail-back (P.cyclic u du td per) (suc n) m at k pre post e f v h =
-        let v₁ = and-left (isTimeUnit u && isDuration du && validTimed td (underCyclic u)) (isDuration per) v in
-        ap (within (λ (t : Timed). P.cyclic u du t per)) (timed-back td (underCyclic u) k (and-right (isTimeUnit u && isDuration du) (validTimed td (underCyclic u)) v₁))
+    detail-back (P.cyclic u du td per) (suc n) m at k pre post e f v h = ap (within (λ (t : Timed). P.cyclic u du t per)) (timed-back td (underCyclic u) k (cyclic-parts u du td per m v .timed))
     detail-back (P.sequence os) zero m at k pre post e f v h = absurd (omega arith)
     detail-back (P.sequence os) (suc n) zero at k pre post e f v h = absurd (false≢true v)
-    detail-back (P.sequence os) (suc n) (suc m) at k pre post e f v h = ap (within P.sequence) (objects-back os n m at k pre post e f (and-right (someObject os) (validObjects os m) v) (omega arith))
+    detail-back (P.sequence os) (suc n) (suc m) at k pre post e f v h = ap (within P.sequence) (objects-back os n m at k pre post e f (sequence-parts os m v .objects) (omega arith))
 
     objects-back : (os : SequenceObjects) (n m at : ℕ) (k : List Record) (pre post : List ℕ) → buffer ≡ pre ++ (objectsStrings os [] ++ post) → length pre ≡ at → validObjects os m ≡ true → objectsRecords os ≤ n → objectsNext buffer n (objectsRecords os) (allWords (objectsRows os at k)) ≡ grown os (allWords k)
     objects-back P.noObject zero m at k pre post e f v h = refl
@@ -135,15 +132,15 @@ module _ (buffer : List ℕ) where
         let g = some-records o in
         let e′ : buffer ≡ pre ++ ((objectStrings o [] ++ objectsStrings os []) ++ post) = e ∙ ap (λ (s : List ℕ). pre ++ (s ++ post)) (object-append o (objectsStrings os [])) in
         let e″ : buffer ≡ pre ++ (objectStrings o [] ++ (objectsStrings os [] ++ post)) = e′ ∙ ap (λ (s : List ℕ). pre ++ s) (append-assoc (objectStrings o []) (objectsStrings os []) post) in
-        object-back o n m at (objectsRecords os) (objectsRows os (at + length (objectStrings o [])) k) pre (objectsStrings os [] ++ post) e″ f (and-left (validObject o m) (validObjects os m) v) (omega arith)
-        ∙ ap (within (P.objectThen o)) (objects-back os n m (at + length (objectStrings o [])) k (pre ++ objectStrings o []) post (behind buffer pre (objectStrings o []) (objectsStrings os []) post e′) (omega (arith, length-append pre (objectStrings o []))) (and-right (validObject o m) (validObjects os m) v) (omega arith))
+        object-back o n m at (objectsRecords os) (objectsRows os (at + length (objectStrings o [])) k) pre (objectsStrings os [] ++ post) e″ f (objects-parts o os m v .first) (omega arith)
+        ∙ ap (within (P.objectThen o)) (objects-back os n m (at + length (objectStrings o [])) k (pre ++ objectStrings o []) post (behind buffer pre (objectStrings o []) (objectsStrings os []) post e′) (omega (arith, length-append pre (objectStrings o []))) (objects-parts o os m v .rest) (omega arith))
 
     object-back : (o : SequenceObject) (n m at c : ℕ) (k : List Record) (pre post : List ℕ) → buffer ≡ pre ++ (objectStrings o [] ++ post) → length pre ≡ at → validObject o m ≡ true → objectRecords o ≤ suc n → objectsNext buffer (suc n) (objectRecords o + c) (allWords (objectRows o at k)) ≡ within (P.objectThen o) (objectsNext buffer n c (allWords k))
     object-back (P.posologySequence du u po) n m at c k pre post e f v h =
         let s : 1 + detailRecords po + c ≡ suc (detailRecords po + c) = omega arith in
         let d : detailRecords po + c - detailRecords po ≡ c = omega arith in
         ap (λ (x : ℕ). objectsNext buffer (suc n) x (allWords (objectRows (P.posologySequence du u po) at k))) s
-        ∙ ap (λ (g : Grown Detail). andThen buffer (P.posologySequence du u (g .value)) (g .rest) (λ vs. objectsNext buffer n (detailRecords po + c - detailRecords po) vs)) (detail-back po n m at k pre post e f (and-right (isDuration du && isTimeUnit u) (validDetail po m) v) (omega arith))
+        ∙ ap (λ (g : Grown Detail). andThen buffer (P.posologySequence du u (g .value)) (g .rest) (λ vs. objectsNext buffer n (detailRecords po + c - detailRecords po) vs)) (detail-back po n m at k pre post e f (posology-sequence-parts du u po m v .detail) (omega arith))
         ∙ ap (λ (x : ℕ). within (P.objectThen (P.posologySequence du u po)) (objectsNext buffer n x (allWords k))) d
     object-back (P.pause du u) n m at c k pre post e f v h =
         let s : 1 + c ≡ suc c = omega arith in

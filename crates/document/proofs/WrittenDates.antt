@@ -119,15 +119,19 @@ zone-reads (west n) v =
     let e : minutesWest n ≡ west n = some-minutes n (ne-eqb n 0 (λ f. omega arith)) in
     then-to (clock (P.clock n [])) (read n []) _ _ (clock-reads n [] (omega arith)) (subst (λ (z : Zone). only (isZone z) z ≡ some (west n)) (sym e) (only-to (isZone (west n)) (west n) v))
 
+pub moment-parts : (d : Day) (s : ℕ) (z : Zone) → isDate (moment d s z) ≡ true → record { day : isDay d ≡ true; second : isSecond s ≡ true; zone : isZone z ≡ true }
+moment-parts d s z v =
+    let w = and-left (isDay d && isSecond s) (isZone z) v in
+    record { day = and-left (isDay d) (isSecond s) w; second = and-right (isDay d) (isSecond s) w; zone = and-right (isDay d && isSecond s) (isZone z) v }
+
 pub date-reads : (d : Date) → isDate d ≡ true → dateOf (P.dateText d) ≡ some d
 unfolding dateOf
 date-reads (bare d) v = then-to (dayOf (P.dayText d [])) (record { value = d; rest = [] }) _ _ (day-reads d [] v) refl
 date-reads (moment d s z) v =
-    let vd : isDay d ≡ true = and-left (isDay d) (isSecond s) (and-left (isDay d && isSecond s) (isZone z) v) in
-    let vs : isSecond s ≡ true = and-right (isDay d) (isSecond s) (and-left (isDay d && isSecond s) (isZone z) v) in
-    let h : s ≤ 86399 = leb-true s 86399 vs in
+    let w = moment-parts d s z v in
+    let h : s ≤ 86399 = leb-true s 86399 (w .second) in
     let e : s / 60 * 60 + s % 60 ≡ s = omega arith in
-    then-to (dayOf (P.dateText (moment d s z))) (record { value = d; rest = 84 ∷ P.timeText s (P.zoneText z) }) _ _ (day-reads d (84 ∷ P.timeText s (P.zoneText z)) vd)
+    then-to (dayOf (P.dateText (moment d s z))) (record { value = d; rest = 84 ∷ P.timeText s (P.zoneText z) }) _ _ (day-reads d (84 ∷ P.timeText s (P.zoneText z)) (w .day))
     (then-to (clock (P.timeText s (P.zoneText z))) (read (s / 60) (58 ∷ P.two (s % 60) (P.zoneText z))) _ _ (clock-reads (s / 60) (58 ∷ P.two (s % 60) (P.zoneText z)) (omega arith))
     (then-to (seconds (read (s / 60) (58 ∷ P.two (s % 60) (P.zoneText z)))) (read (s / 60 * 60 + s % 60) (P.zoneText z)) _ _ (seconds-read (s / 60) (s % 60) (P.zoneText z) (omega arith))
-    (then-to (zone (P.zoneText z)) z _ _ (zone-reads z (and-right (isDay d && isSecond s) (isZone z) v)) (ap (λ (n : ℕ). some (moment d n z)) e))))
+    (then-to (zone (P.zoneText z)) z _ _ (zone-reads z (w .zone)) (ap (λ (n : ℕ). some (moment d n z)) e))))

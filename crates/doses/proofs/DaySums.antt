@@ -10,8 +10,8 @@ use borrow.Author.Tests.{eqb-true, eqb-false}
 use Rattle.document.specs.Visit.{isEmpty}
 use Rattle.document.specs.Valid.{climbs, isDays}
 use Rattle.document.specs.Table.{daySet}
-use Rattle.json.proofs.Truth.{and-left, and-right, and-both}
-use Rattle.document.proofs.Days.{climbs-parts, climbs-more}
+use Rattle.json.proofs.Truth.{and-left, and-both}
+use Rattle.document.proofs.Days.{climbs-parts, climbs-more, days-climb}
 use Rattle.document.proofs.DaySets.{from, halves, from-one, days-small}
 
 lower : (least day hi : ℕ) (ds : List ℕ) → least ≤ day → climbs day hi ds ≡ true → climbs least hi ds ≡ true
@@ -81,5 +81,5 @@ pub days-sum : (hi : ℕ) (ds : List ℕ) → isDays hi ds ≡ true → (1 ≤ d
 days-sum hi ds v =
     let e = from-one ds in
     let a = some-sum ds (and-left (not (isEmpty ds)) (climbs 0 hi ds) v) in
-    let b = days-small 0 hi ds (omega arith) (and-right (not (isEmpty ds)) (climbs 0 hi ds) v) in
+    let b = days-small 0 hi ds (omega arith) (days-climb hi ds v) in
     (omega arith, omega arith)

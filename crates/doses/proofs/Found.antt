@@ -1,23 +1,23 @@
 -- Words of a valid value are found right: dosages and timed dosages.
 use mathlib.Core.Path.{_≡_, refl}
 use mathlib.Core.List.{List, [], _∷_}
-use mathlib.Core.Bool.{Bool, true, false, _&&_, false≢true}
+use mathlib.Core.Bool.{Bool, true, false, false≢true}
 use Prim.Native.Nat.{ℕ, _+_, _≤_, _<_}
 use native.Mathlib.Omega.{arith}
-use lib.Dec.{eqb, leb, ltb}
+use lib.Dec.{eqb}
 use lib.ListN.{length}
 use borrow.Author.Tests.{ltb-true, leb-true, eqb-true}
 use Rattle.document.specs.Posology as P
 use Rattle.document.specs.Posology.{Dosage, AtTime, InSegment, Timed}
 use Rattle.document.specs.Schema.{underSingle, underDays, underCyclic}
-use Rattle.document.specs.Date.{among, isSecond}
-use Rattle.document.specs.Valid.{validDosage, validAtTime, validInSegment, every, validTimed, isDays, isAmount, isTimeUnit, isDuration, timedRecords}
+use Rattle.document.specs.Date.{among}
+use Rattle.document.specs.Valid.{validDosage, validAtTime, validInSegment, every, validTimed, timedRecords}
 use Rattle.document.specs.Table.{dosageRow, timesRows, segmentsRows, timedRows}
 use Rattle.document.specs.Words.{recordWords, allWords}
 use Rattle.document.specs.declared.table.Record.{Record}
 use Rattle.words.specs.Standing.{belowAt, At, Lies}
-use Rattle.json.proofs.Truth.{and-left, and-right}
 use Rattle.document.proofs.Ranges.{in-range}
+use Rattle.document.proofs.DetailParts.{simple-parts, from-to-parts, range-parts, first-time, first-segment, dosage-only-parts, times-parts, segments-parts, week-parts, month-parts, interval-parts}
 use Rattle.doses.proofs.DaySums.{days-sum}
 use Rattle.doses.proofs.Lies.{moved, typesUnder}
 use Rattle.doses.specs.Doses.{DosageAt, simple, fromTo, range, ApplicationsAt, none, more, PlainAt, dosageOnly, times, segments, TimedAt, plain, interval, weekDays, daysOfMonth}
@@ -30,46 +30,44 @@ pub record Lets (ts : List ℕ) (parent : ℕ) : Type 0 where
 
 module _ {ws : List ℕ} where
   pub dosage-found : {i : ℕ} (d : Dosage) → validDosage d ≡ true → At ws i (recordWords (dosageRow d)) → DosageAt ws i
-  unfolding validDosage
   dosage-found (P.simple a) v p =
-      let g : 0 < a = ltb-true 0 a (and-left (ltb 0 a) (isAmount a) v) in
-      let h : a ≤ 999999999999 = leb-true a 999999999999 (and-right (ltb 0 a) (isAmount a) v) in
+      let w = simple-parts a v in
+      let g : 0 < a = ltb-true 0 a (w .some) in
+      let h : a ≤ 999999999999 = leb-true a 999999999999 (w .most) in
       simple (record { inside = p .inside; tag = p .tag; below-least = omega arith; below-most = omega arith; a-least = omega arith; a-most = omega arith; b-least = omega arith; b-most = omega arith; c-least = omega arith; c-most = omega arith; d-least = omega arith; d-most = omega arith })
   dosage-found (P.fromTo a b u n) v p =
-      let v₁ = and-left (ltb a b && isAmount b && isTimeUnit u) (isDuration n) v in
-      let v₂ = and-left (ltb a b && isAmount b) (isTimeUnit u) v₁ in
-      let g : a < b = ltb-true a b (and-left (ltb a b) (isAmount b) v₂) in
-      let h : b ≤ 999999999999 = leb-true b 999999999999 (and-right (ltb a b) (isAmount b) v₂) in
-      let u-in = in-range 1 u 7 (and-right (ltb a b && isAmount b) (isTimeUnit u) v₁) in
-      let n-in = in-range 1 n 99999 (and-right (ltb a b && isAmount b && isTimeUnit u) (isDuration n) v) in
+      let w = from-to-parts a b u n v in
+      let g : a < b = ltb-true a b (w .rises) in
+      let h : b ≤ 999999999999 = leb-true b 999999999999 (w .most) in
+      let u-in = in-range 1 u 7 (w .unit) in
+      let n-in = in-range 1 n 99999 (w .duration) in
       fromTo (record { row = record { inside = p .inside; tag = p .tag; below-least = omega arith; below-most = omega arith; a-least = omega arith; a-most = omega arith; b-least = omega arith; b-most = omega arith; c-least = omega arith; c-most = omega arith; d-least = omega arith; d-most = omega arith }; rises = omega arith })
   dosage-found (P.range a b) v p =
-      let v₁ = and-left (ltb 0 a && ltb a b) (isAmount b) v in
-      let f : 0 < a = ltb-true 0 a (and-left (ltb 0 a) (ltb a b) v₁) in
-      let g : a < b = ltb-true a b (and-right (ltb 0 a) (ltb a b) v₁) in
-      let h : b ≤ 999999999999 = leb-true b 999999999999 (and-right (ltb 0 a && ltb a b) (isAmount b) v) in
+      let w = range-parts a b v in
+      let f : 0 < a = ltb-true 0 a (w .some) in
+      let g : a < b = ltb-true a b (w .rises) in
+      let h : b ≤ 999999999999 = leb-true b 999999999999 (w .most) in
       range (record { row = record { inside = p .inside; tag = p .tag; below-least = omega arith; below-most = omega arith; a-least = omega arith; a-most = omega arith; b-least = omega arith; b-most = omega arith; c-least = omega arith; c-most = omega arith; d-least = omega arith; d-most = omega arith }; rises = omega arith })
 
   pub times-found : {i : ℕ} (end : ℕ) (ts : List AtTime) (k : List Record) → every validAtTime ts ≡ true → i + (length ts + length ts) ≡ end → Lies ws i (allWords (timesRows ts k)) → ApplicationsAt ws end 17 0 86399 i × Lies ws end (allWords k)
   times-found {i} end [] k v e l = let n : i ≡ end = omega arith in (none n, moved ws (allWords k) n l)
   times-found {i} end (P.atTime d t ∷ ts) k v e l =
-      let v₁ = and-left (validDosage d && isSecond t) (every validAtTime ts) v in
-      let h : t ≤ 86399 = leb-true t 86399 (and-right (validDosage d) (isSecond t) v₁) in
+      let w = first-time d t ts v in
+      let h : t ≤ 86399 = leb-true t 86399 (w .time) in
       let p = l .0 in
       let n : i + 1 + 1 ≡ i + 2 = omega arith in
-      let r = times-found {i = i + 2} end ts k (and-right (validDosage d && isSecond t) (every validAtTime ts) v) (omega arith) (moved ws (allWords (timesRows ts k)) n (l .1 .1)) in
-      (more (record { row = record { inside = p .inside; tag = p .tag; below-least = omega arith; below-most = omega arith; a-least = omega arith; a-most = omega arith; b-least = omega arith; b-most = omega arith; c-least = omega arith; c-most = omega arith; d-least = omega arith; d-most = omega arith }; dosage = dosage-found d (and-left (validDosage d) (isSecond t) v₁) (l .1 .0) }) (r .0), r .1)
+      let r = times-found {i = i + 2} end ts k (w .rest) (omega arith) (moved ws (allWords (timesRows ts k)) n (l .1 .1)) in
+      (more (record { row = record { inside = p .inside; tag = p .tag; below-least = omega arith; below-most = omega arith; a-least = omega arith; a-most = omega arith; b-least = omega arith; b-most = omega arith; c-least = omega arith; c-most = omega arith; d-least = omega arith; d-most = omega arith }; dosage = dosage-found d (w .dosage) (l .1 .0) }) (r .0), r .1)
 
   pub segments-found : {i : ℕ} (end : ℕ) (ts : List InSegment) (k : List Record) → every validInSegment ts ≡ true → i + (length ts + length ts) ≡ end → Lies ws i (allWords (segmentsRows ts k)) → ApplicationsAt ws end 18 1 4 i × Lies ws end (allWords k)
   segments-found {i} end [] k v e l = let n : i ≡ end = omega arith in (none n, moved ws (allWords k) n l)
   segments-found {i} end (P.inSegment d t ∷ ts) k v e l =
-      let v₁ = and-left (validDosage d && (leb 1 t && leb t 4)) (every validInSegment ts) v in
-      let v₂ = and-right (validDosage d) (leb 1 t && leb t 4) v₁ in
-      let t-in = in-range 1 t 4 v₂ in
+      let w = first-segment d t ts v in
+      let t-in = in-range 1 t 4 (w .segment) in
       let p = l .0 in
       let n : i + 1 + 1 ≡ i + 2 = omega arith in
-      let r = segments-found {i = i + 2} end ts k (and-right (validDosage d && (leb 1 t && leb t 4)) (every validInSegment ts) v) (omega arith) (moved ws (allWords (segmentsRows ts k)) n (l .1 .1)) in
-      (more (record { row = record { inside = p .inside; tag = p .tag; below-least = omega arith; below-most = omega arith; a-least = omega arith; a-most = omega arith; b-least = omega arith; b-most = omega arith; c-least = omega arith; c-most = omega arith; d-least = omega arith; d-most = omega arith }; dosage = dosage-found d (and-left (validDosage d) (leb 1 t && leb t 4) v₁) (l .1 .0) }) (r .0), r .1)
+      let r = segments-found {i = i + 2} end ts k (w .rest) (omega arith) (moved ws (allWords (segmentsRows ts k)) n (l .1 .1)) in
+      (more (record { row = record { inside = p .inside; tag = p .tag; below-least = omega arith; below-most = omega arith; a-least = omega arith; a-most = omega arith; b-least = omega arith; b-most = omega arith; c-least = omega arith; c-most = omega arith; d-least = omega arith; d-most = omega arith }; dosage = dosage-found d (w .dosage) (l .1 .0) }) (r .0), r .1)
 
   -- A timed dosage of type 1, 2 or 3.
   pub plain-found : {i : ℕ} (td : Timed) (k : List Record) → validTimed td underDays ≡ true → i + timedRecords td ≤ 64 → Lies ws i (allWords (timedRows td k)) → PlainAt ws i × ((belowAt ws i + 1 ≡ timedRecords td) × Lies ws (i + timedRecords td) (allWords k))
@@ -96,37 +94,36 @@ module _ {ws : List ℕ} where
 
   pub timed-found : {i : ℕ} (td : Timed) (ts : List ℕ) (parent : ℕ) (k : List Record) → Lets ts parent → validTimed td ts ≡ true → i + timedRecords td ≤ 64 → Lies ws i (allWords (timedRows td k)) → TimedAt ws i parent × ((belowAt ws i + 1 ≡ timedRecords td) × Lies ws (i + timedRecords td) (allWords k))
   unfolding validTimed timedRows
-  timed-found (P.dosageOnly d) ts parent k h v f l = let r = plain-found (P.dosageOnly d) k (and-right (among 1 ts) (validDosage d) v) f l in (plain (r .0), r .1)
-  timed-found (P.times as′) ts parent k h v f l = let r = plain-found (P.times as′) k (and-right (among 2 ts) (every validAtTime as′) v) f l in (plain (r .0), r .1)
-  timed-found (P.daySegments as′) ts parent k h v f l = let r = plain-found (P.daySegments as′) k (and-right (among 3 ts) (every validInSegment as′) v) f l in (plain (r .0), r .1)
+  timed-found (P.dosageOnly d) ts parent k h v f l = let r = plain-found (P.dosageOnly d) k (dosage-only-parts d ts v .dosage) f l in (plain (r .0), r .1)
+  timed-found (P.times as′) ts parent k h v f l = let r = plain-found (P.times as′) k (times-parts as′ ts v .each) f l in (plain (r .0), r .1)
+  timed-found (P.daySegments as′) ts parent k h v f l = let r = plain-found (P.daySegments as′) k (segments-parts as′ ts v .each) f l in (plain (r .0), r .1)
   timed-found {i} (P.weekDays ds td) ts parent k h v f l =
-      let v₁ = and-left (among 4 ts && isDays 7 ds) (validTimed td underDays) v in
-      let s = days-sum 7 ds (and-right (among 4 ts) (isDays 7 ds) v₁) in
-      let r = plain-found td k (and-right (among 4 ts && isDays 7 ds) (validTimed td underDays) v) (omega arith) (l .1) in
+      let w = week-parts ds td ts v in
+      let s = days-sum 7 ds (w .days) in
+      let r = plain-found td k (w .timed) (omega arith) (l .1) in
       let p = l .0 in
       let s₀ = s .0 in
       let s₁ = s .1 in
       let c = r .1 .0 in
       let n : i + 1 + timedRecords td ≡ i + (1 + timedRecords td) = omega arith in
-      (weekDays (h .week (and-left (among 4 ts) (isDays 7 ds) v₁)) (record { row = record { inside = p .inside; tag = p .tag; below-least = omega arith; below-most = omega arith; a-least = omega arith; a-most = omega arith; b-least = omega arith; b-most = omega arith; c-least = omega arith; c-most = omega arith; d-least = omega arith; d-most = omega arith }; inner = r .0; nested = omega arith }), (omega arith, moved ws (allWords k) n (r .1 .1)))
+      (weekDays (h .week (w .allowed)) (record { row = record { inside = p .inside; tag = p .tag; below-least = omega arith; below-most = omega arith; a-least = omega arith; a-most = omega arith; b-least = omega arith; b-most = omega arith; c-least = omega arith; c-most = omega arith; d-least = omega arith; d-most = omega arith }; inner = r .0; nested = omega arith }), (omega arith, moved ws (allWords k) n (r .1 .1)))
   timed-found {i} (P.daysOfMonth ds td) ts parent k h v f l =
-      let v₁ = and-left (among 5 ts && isDays 28 ds) (validTimed td underDays) v in
-      let s = days-sum 28 ds (and-right (among 5 ts) (isDays 28 ds) v₁) in
-      let r = plain-found td k (and-right (among 5 ts && isDays 28 ds) (validTimed td underDays) v) (omega arith) (l .1) in
+      let w = month-parts ds td ts v in
+      let s = days-sum 28 ds (w .days) in
+      let r = plain-found td k (w .timed) (omega arith) (l .1) in
       let p = l .0 in
       let s₀ = s .0 in
       let s₁ = s .1 in
       let c = r .1 .0 in
       let n : i + 1 + timedRecords td ≡ i + (1 + timedRecords td) = omega arith in
-      (daysOfMonth (h .month (and-left (among 5 ts) (isDays 28 ds) v₁)) (record { row = record { inside = p .inside; tag = p .tag; below-least = omega arith; below-most = omega arith; a-least = omega arith; a-most = omega arith; b-least = omega arith; b-most = omega arith; c-least = omega arith; c-most = omega arith; d-least = omega arith; d-most = omega arith }; inner = r .0; nested = omega arith }), (omega arith, moved ws (allWords k) n (r .1 .1)))
+      (daysOfMonth (h .month (w .allowed)) (record { row = record { inside = p .inside; tag = p .tag; below-least = omega arith; below-most = omega arith; a-least = omega arith; a-most = omega arith; b-least = omega arith; b-most = omega arith; c-least = omega arith; c-most = omega arith; d-least = omega arith; d-most = omega arith }; inner = r .0; nested = omega arith }), (omega arith, moved ws (allWords k) n (r .1 .1)))
   timed-found {i} (P.interval d n u) ts parent k h v f l =
-      let v₁ = and-left (among 6 ts && validDosage d && isDuration n) (isTimeUnit u) v in
-      let v₂ = and-left (among 6 ts && validDosage d) (isDuration n) v₁ in
-      let u-in = in-range 1 u 7 (and-right (among 6 ts && validDosage d && isDuration n) (isTimeUnit u) v) in
-      let n-in = in-range 1 n 99999 (and-right (among 6 ts && validDosage d) (isDuration n) v₁) in
+      let w = interval-parts d n u ts v in
+      let u-in = in-range 1 u 7 (w .unit) in
+      let n-in = in-range 1 n 99999 (w .duration) in
       let p = l .0 in
       let m : i + 1 + 1 ≡ i + 2 = omega arith in
-      (interval (h .interval (and-left (among 6 ts) (validDosage d) v₂)) (record { row = record { inside = p .inside; tag = p .tag; below-least = omega arith; below-most = omega arith; a-least = omega arith; a-most = omega arith; b-least = omega arith; b-most = omega arith; c-least = omega arith; c-most = omega arith; d-least = omega arith; d-most = omega arith }; dosage = dosage-found d (and-right (among 6 ts) (validDosage d) v₂) (l .1 .0) }), (omega arith, moved ws (allWords k) m (l .1 .1)))
+      (interval (h .interval (w .allowed)) (record { row = record { inside = p .inside; tag = p .tag; below-least = omega arith; below-most = omega arith; a-least = omega arith; a-most = omega arith; b-least = omega arith; b-most = omega arith; c-least = omega arith; c-most = omega arith; d-least = omega arith; d-most = omega arith }; dosage = dosage-found d (w .dosage) (l .1 .0) }), (omega arith, moved ws (allWords k) m (l .1 .1)))
 
 pub lets-single : Lets underSingle 0
 lets-single = record { week = λ e. absurd (false≢true e); month = λ e. absurd (false≢true e); interval = λ e. absurd (false≢true e) }

@@ -125,37 +125,12 @@ fn behind_bracket(text: &[u8], at: usize) -> usize
 fn is_numeric(b: u8) -> bool
     ensures { λ r. ⌜ r ≡ isNumeric b ⌝ }
 {
-    if b < 43 {
-        return false;
+    match b {
+        b'+' | b'-' => true,
+        b'.' | b'E' | b'e' => true,
+        b'0'..=b'9' => true,
+        _ => false,
     }
-    if b < 44 {
-        return true;
-    }
-    if b < 45 {
-        return false;
-    }
-    if b < 47 {
-        return true;
-    }
-    if b < 48 {
-        return false;
-    }
-    if b < 58 {
-        return true;
-    }
-    if b < 69 {
-        return false;
-    }
-    if b < 70 {
-        return true;
-    }
-    if b < 101 {
-        return false;
-    }
-    if b < 102 {
-        return true;
-    }
-    false
 }
 
 // The place behind the number at `at`.

@@ -1,11 +1,12 @@
 -- Tests of a hexadecimal digit, by what it counts.
 use Prim.Native.Nat.{ℕ, zero, suc, _<_, _/_}
 use mathlib.Core.Path.{_≡_, refl, sym}
-use mathlib.Core.Bool.{Bool, true, false, _&&_}
-use lib.Dec.{eqb, leb}
+use mathlib.Core.Bool.{Bool, true, false, _&&_, _||_}
+use lib.Dec.{eqb, leb, ltb}
+use borrow.Author.Tests.{ne-eqb}
 use native.Mathlib.Omega.{arith}
 use native.Mathlib.Decide.{decLt}
-use Rattle.json.specs.Byte.{digit, isD, is8ToB, isCToF}
+use Rattle.json.specs.Byte.{digit, isHex, isD, is8ToB, isCToF}
 use Rattle.json.proofs.Truth.{and-left, and-right}
 
 abbrev same : Bool → Bool → Bool
@@ -32,6 +33,10 @@ agreed f g (suc k) e b h = elim (decLt b k) [
       let p : b ≡ k = omega arith in
       rw p (same-means (f k) (g k) (and-left (same (f k) (g k)) (agree f g k) e))
 ]
+
+pub hex-counts : (b : ℕ) → b < 256 → (b ≡ 48 → ⊥) → ltb 0 (digit b) ≡ isHex b
+unfolding digit isHex
+hex-counts b h d = rw (ne-eqb b 48 d) at (agreed (λ b. eqb b 48 || ltb 0 (digit b)) isHex 256 refl b h)
 
 pub d-counts : (b : ℕ) → b < 256 → eqb (digit b) 13 ≡ isD b
 unfolding digit isD

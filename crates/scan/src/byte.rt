@@ -7,25 +7,11 @@ ghost use Rattle.json.specs.Tree.{Moves};
 pub fn is_blank(b: u8) -> bool
     ensures { λ r. ⌜ r ≡ isBlank b ⌝ }
 {
-    if 33 <= b {
-        return false;
+    match b {
+        b' ' | b'\t' => true,
+        b'\n' | b'\r' => true,
+        _ => false,
     }
-    if 32 <= b {
-        return true;
-    }
-    if 14 <= b {
-        return false;
-    }
-    if 13 <= b {
-        return true;
-    }
-    if 11 <= b {
-        return false;
-    }
-    if 9 <= b {
-        return true;
-    }
-    false
 }
 
 // From lo on, and below hi.
@@ -35,34 +21,17 @@ pub fn within(lo: u8, hi: u8, b: u8) -> bool
     if b < lo {
         return false;
     }
-    if b < hi {
-        return true;
-    }
-    false
+    b < hi
 }
 
 pub fn is_hex(b: u8) -> bool
     ensures { λ r. ⌜ r ≡ isHex b ⌝ }
 {
-    if b < 48 {
-        return false;
-    }
-    if b < 58 {
+    // 0 is the one digit that counts 0, as what is no digit does
+    if b == b'0' {
         return true;
     }
-    if 103 <= b {
-        return false;
-    }
-    if 97 <= b {
-        return true;
-    }
-    if 71 <= b {
-        return false;
-    }
-    if 65 <= b {
-        return true;
-    }
-    false
+    0 < digit_of(b)
 }
 
 pub fn is_d(b: u8) -> bool

@@ -211,10 +211,7 @@ pub fn is_ascii(b: u8) -> bool
     if 34 <= b {
         return false;
     }
-    if 32 <= b {
-        return true;
-    }
-    false
+    32 <= b
 }
 
 fn ascii_skipped(text: &[u8], state: InString, at: usize) -> usize

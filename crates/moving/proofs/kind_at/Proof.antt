@@ -2,7 +2,7 @@
 use borrow.Author.Needs.{needs}
 use mathlib.Core.List.{[], _∷_}
 use Rattle.json.specs.Rows.{look}
-use Rattle.json.proofs.Rows.{others}
+use Rattle.json.proofs.Rows.{single, others}
 use Rattle.moving.specs.Moving.{kindOf}
 use Rattle.moving.proofs.FirstByte.{by-byte}
 use Rattle.moving.proofs.kind_at.Statement.{statement}
@@ -37,7 +37,7 @@ returns-6 c = rw (← c .before .byte-at .ensures, c .match .keys6)
 
 returns-7 : tie.Need-returns-7
 unfolding kindOf
-returns-7 c = search (by-byte, others (123 ∷ 116 ∷ 110 ∷ 102 ∷ 91 ∷ 34 ∷ []))
+returns-7 c = search (by-byte, others (single (123 ∷ 116 ∷ 110 ∷ 102 ∷ 91 ∷ 34 ∷ [])))
 
 pub kind-at-spec : {M : Type 1} → statement M
 kind-at-spec = tie.close (tie.spec byte-at-requires returns returns-2 returns-3 returns-4 returns-5 returns-6 returns-7)

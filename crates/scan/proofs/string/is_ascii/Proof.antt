@@ -1,6 +1,6 @@
 -- Each answer is that of a row of the table `isAscii`.
 use Rattle.json.specs.String.{isAscii}
-use Rattle.json.proofs.Rows.{between, beyond, under}
+use Rattle.json.proofs.Rows.{between, beyond, before, whether-from}
 use Rattle.scan.proofs.string.is_ascii.Statement.{statement}
 use Rattle.scan.proofs.string.is_ascii.Tie as tie
 
@@ -26,11 +26,7 @@ returns-5 c = search (between 34 35)
 
 returns-6 : tie.Need-returns-6
 unfolding isAscii
-returns-6 c = search (between 32 34)
-
-returns-7 : tie.Need-returns-7
-unfolding isAscii
-returns-7 c = search (under 32)
+returns-6 c = search (whether-from, before 34)
 
 pub is-ascii-spec : {M : Type 1} → statement M
-is-ascii-spec = tie.close (tie.spec returns returns-2 returns-3 returns-4 returns-5 returns-6 returns-7)
+is-ascii-spec = tie.close (tie.spec returns returns-2 returns-3 returns-4 returns-5 returns-6)

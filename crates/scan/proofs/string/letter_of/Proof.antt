@@ -2,7 +2,7 @@
 use mathlib.Core.List.{[], _∷_}
 use Rattle.json.specs.Rows.{look}
 use Rattle.json.specs.String.{letter}
-use Rattle.json.proofs.Rows.{others}
+use Rattle.json.proofs.Rows.{single, others}
 use Rattle.scan.proofs.string.letter_of.Statement.{statement}
 use Rattle.scan.proofs.string.letter_of.Tie as tie
 
@@ -44,7 +44,7 @@ returns-9 c = rw (c .match .keys9)
 
 returns-10 : tie.Need-returns-10
 unfolding letter
-returns-10 c = search (others (117 ∷ 116 ∷ 114 ∷ 110 ∷ 102 ∷ 98 ∷ 92 ∷ 47 ∷ 34 ∷ []))
+returns-10 c = search (others (single (117 ∷ 116 ∷ 114 ∷ 110 ∷ 102 ∷ 98 ∷ 92 ∷ 47 ∷ 34 ∷ [])))
 
 pub letter-of-spec : {M : Type 1} → statement M
 letter-of-spec =
