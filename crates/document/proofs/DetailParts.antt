@@ -14,7 +14,7 @@ use Rattle.document.specs.Visit.{isEmpty}
 use Rattle.document.specs.Valid.{isAmount, isDuration, isTimeUnit, isText, isDays, every, validDosage, validAtTime, validInSegment, validTimed, someObject, validDetail, validObject, validObjects}
 use Rattle.json.proofs.Truth.{and-left, and-right}
 
-all-three : (a b c : Bool) → (a && b && c) ≡ true → (a ≡ true) × (b ≡ true) × (c ≡ true)
+pub all-three : (a b c : Bool) → (a && b && c) ≡ true → (a ≡ true) × (b ≡ true) × (c ≡ true)
 all-three a b c v = let w = and-left (a && b) c v in (and-left a b w, and-right a b w, and-right (a && b) c v)
 
 pub all-four : (a b c d : Bool) → (a && b && c && d) ≡ true → (a ≡ true) × (b ≡ true) × (c ≡ true) × (d ≡ true)

@@ -10,16 +10,17 @@ use lib.ListN.{length}
 use borrow.Author.Tests.{lt-ltb}
 use Rattle.document.specs.Bytes.{bytes}
 use Rattle.document.specs.Posology.{Posology, Date, Dosage, simple, AtTime, InSegment, Timed, dosageOnly, times, daySegments, weekDays, daysOfMonth, interval, Detail, daily, freeText, single, cyclic, sequence, SequenceObject, posologySequence, pause, ordered}
-use Rattle.document.specs.Date.{among, isDate, isSecond, inOrder}
+use Rattle.document.specs.Date.{among, isDate, isSecond}
 use Rattle.document.specs.Lookup.{Entry, Found, nothing, one, twice, find}
-use Rattle.document.specs.Schema.{greatestDecimal, greatestInteger, mealCodes, sequencesInside, aPosology, aDetail, aTimed, aDosage, aSequenceObject, anAtTime, anInSegment, integer, decimal, date, time, fourDecimals, days, Shape, aNumber, aString, aFlag, anObject, aList, Of, Rows, need, may, gives, gives-if, aText, rowsOf}
+use Rattle.document.specs.Schema.{greatestDecimal, greatestInteger, mealCodes, aPosology, aDetail, aTimed, aDosage, aSequenceObject, anAtTime, anInSegment, integer, decimal, date, time, fourDecimals, days, Shape, aNumber, aString, aFlag, anObject, aList, Of, Rows, need, may, gives, gives-if, aText, rowsOf}
 use Rattle.document.specs.Visit.{Left, recordLess, isEmpty}
-use Rattle.document.specs.Valid.{isAmount, isDuration, isText, isMeal, isUnitFor, ifGiven, every, validDosage, validAtTime, validInSegment, validDetail, validObject, validFields, timedRecords, detailRecords, objectRecords}
+use Rattle.document.specs.Valid.{isAmount, isDuration, isText, isMeal, isUnitFor, ifGiven, every, validDosage, validAtTime, validInSegment, validDetail, validObject, timedRecords, detailRecords, objectRecords}
 use Rattle.document.specs.Spells.{Meaning, Given, Perhaps, FieldsMean}
 use Rattle.json.proofs.Truth.{and-both, and-left, and-right}
 use Rattle.document.proofs.Good.{sum, detailText, objectText, givenText, Takes, Good}
 use Rattle.document.proofs.Makes.{takes-as, sum-two, sum-none, objects-valid, objects-records, objects-text, some-object, above}
 use Rattle.document.proofs.DetailParts.{from-to-parts, range-parts, dosage-only-parts, times-parts, segments-parts, week-parts, month-parts, interval-parts, text-parts, cyclic-parts, sequence-parts, posology-sequence-parts, pause-parts}
+use Rattle.document.proofs.ValidParts.{fields-parts}
 use Rattle.document.proofs.Sound.{good-free}
 
 abbrev pub GoodGiven : (s : Shape) → Option (Of s) → Left → Left → Type 0
@@ -355,25 +356,14 @@ unit-parts purpose true k ds l l′ l″ u p e v h g m = (u, l′, h, g, m)
 unit-parts purpose false k ds l l′ l″ none p e v h g m = absurd (false≢true (sym e ∙ v))
 unit-parts purpose false k ds l l′ l″ (some u) p e v h g m = (u, l′, perhaps-given aText (find (bytes "unit") ds) u h, g, m)
 
-pub all-nine : (a b c d e f g h i : Bool) → (a && b && c && d && e && f && g && h && i) ≡ true → (a ≡ true) × (b ≡ true) × (c ≡ true) × (d ≡ true) × (e ≡ true) × (f ≡ true) × (g ≡ true) × (h ≡ true) × (i ≡ true)
-all-nine a b c d e f g h i v =
-    let v₇ = and-left (a && b && c && d && e && f && g && h) i v in
-    let v₆ = and-left (a && b && c && d && e && f && g) h v₇ in
-    let v₅ = and-left (a && b && c && d && e && f) g v₆ in
-    let v₄ = and-left (a && b && c && d && e) f v₅ in
-    let v₃ = and-left (a && b && c && d) e v₄ in
-    let v₂ = and-left (a && b && c) d v₃ in
-    let v₁ = and-left (a && b) c v₂ in
-    (and-left a b v₁, and-right a b v₁, and-right (a && b) c v₂, and-right (a && b && c) d v₃, and-right (a && b && c && d) e v₄, and-right (a && b && c && d && e) f v₅, and-right (a && b && c && d && e && f) g v₆, and-right (a && b && c && d && e && f && g) h v₇, and-right (a && b && c && d && e && f && g && h) i v)
-
 pub posology-parts : (purpose : ℕ) (ds : List (Entry Meaning)) (l l″ : Left) (p : Posology) → FieldsMean (rowsOf (aPosology 3) 0) ds p → Good (anObject (aPosology purpose)) p l l″ → Parts (rowsOf (aPosology purpose) 0) ds l p l″
-unfolding rowsOf validFields
+unfolding rowsOf
 posology-parts purpose ds l l″ p f g =
     let f₁ = f .2 in let f₂ = f₁ .2 in let f₃ = f₂ .2 in let f₄ = f₃ .2 in let f₅ = f₄ .2 in let f₆ = f₅ .2 in let f₇ = f₆ .2 in let f₈ = f₇ .2 in
     let from = f .0 in let to = f₁ .0 in let reserve = f₂ .0 in let po = f₃ .0 in let meal = f₄ .0 in let unit = f₅ .0 in let instr = f₆ .0 in let roa = f₇ .0 in let moa = f₈ .0 in
     let q : Posology = record { dtFrom = from; dtTo = to; inRes = Option·getD reserve false; po = po; relMeal = meal; unit = unit; applInstr = instr; roa = roa; moa = moa } in
     let g′ : Good (anObject (aPosology purpose)) q l l″ = subst (λ (z : Posology). Good (anObject (aPosology purpose)) z l l″) (sym (f₈ .2)) g in
-    let v = all-nine (ifGiven isDate from) (ifGiven isDate to) (validDetail po sequencesInside) (ifGiven isMeal meal) (isUnitFor purpose unit) (ifGiven isText instr) (ifGiven isText roa) (ifGiven isText moa) (inOrder from to) (g′ .valid) in
+    let v = fields-parts purpose q (g′ .valid) in
     let l₈ = before (givenText moa) l″ in
     let l₇ = before (givenText roa) l₈ in
     let l₆ = before (givenText instr) l₇ in
@@ -382,12 +372,12 @@ posology-parts purpose ds l l″ p f g =
       from,
       l,
       f .1,
-      date-given from l (v .0),
+      date-given from l (v .from),
       (
         to,
         l,
         f₁ .1,
-        date-given to l (v .1),
+        date-given to l (v .to),
         (
           reserve,
           l,
@@ -397,28 +387,28 @@ posology-parts purpose ds l l″ p f g =
             po,
             l₅,
             f₃ .1,
-            record { valid = v .2; takes = record { taken = omega arith; used = omega arith } },
+            record { valid = v .detail; takes = record { taken = omega arith; used = omega arith } },
             (
               meal,
               l₅,
               f₄ .1,
-              meal-given meal l₅ (v .3),
-              unit-parts purpose (eqb purpose 3) _ ds l₅ l₆ l″ unit p refl (v .4) (f₅ .1) (text-given unit l₆ (unit-text purpose unit (v .4))) (
+              meal-given meal l₅ (v .meal),
+              unit-parts purpose (eqb purpose 3) _ ds l₅ l₆ l″ unit p refl (v .unit) (f₅ .1) (text-given unit l₆ (unit-text purpose unit (v .unit))) (
                 instr,
                 l₇,
                 f₆ .1,
-                text-given instr l₇ (v .5),
+                text-given instr l₇ (v .instructions),
                 (
                   roa,
                   l₈,
                   f₇ .1,
-                  text-given roa l₈ (v .6),
+                  text-given roa l₈ (v .roa),
                   (
                     moa,
                     l″,
                     f₈ .1,
-                    text-given moa l″ (v .7),
-                    (v .8, f₈ .2, refl),
+                    text-given moa l″ (v .moa),
+                    (v .ordered, f₈ .2, refl),
                   ),
                 ),
               ),

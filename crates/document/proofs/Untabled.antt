@@ -120,7 +120,7 @@ given-append : (u : Option (List ℕ)) (k b : List ℕ) → given u k ++ b ≡ b
 given-append none k b = refl
 given-append (some cs) k b = ap (λ (s : List ℕ). s ++ b) (joined-append cs k) ∙ append-assoc cs k b
 
-pub length-of : (u : Option (List ℕ)) → length (bytesOf u) ≡ lengthOf u
+length-of : (u : Option (List ℕ)) → length (bytesOf u) ≡ lengthOf u
 length-of none = refl
 length-of (some cs) = refl
 

@@ -10,7 +10,7 @@ use Rattle.document.specs.Schema.{sequencesInside}
 use Rattle.document.specs.Visit.{recordsAtMost}
 use Rattle.document.specs.Valid.{isText, isMeal, ifGiven, isUnitFor, validDetail, validFields, valid, detailRecords}
 use Rattle.json.proofs.Truth.{and-both, and-left, and-right}
-use Rattle.document.proofs.Parts.{all-nine}
+use Rattle.document.proofs.DetailParts.{all-three, all-four}
 
 pub record ValidParts (purpose : ℕ) (p : Posology) : Type 0 where
   pub from : ifGiven isDate (p .dtFrom) ≡ true
@@ -23,11 +23,17 @@ pub record ValidParts (purpose : ℕ) (p : Posology) : Type 0 where
   pub moa : ifGiven isText (p .moa) ≡ true
   pub ordered : inOrder (p .dtFrom) (p .dtTo) ≡ true
 
+pub fields-parts : (purpose : ℕ) (p : Posology) → validFields purpose p ≡ true → ValidParts purpose p
+unfolding validFields
+fields-parts purpose p v =
+    let last = all-four _ (ifGiven isText (p .roa)) (ifGiven isText (p .moa)) (inOrder (p .dtFrom) (p .dtTo)) v in
+    let middle = all-four _ (ifGiven isMeal (p .relMeal)) (isUnitFor purpose (p .unit)) (ifGiven isText (p .applInstr)) (last .0) in
+    let first = all-three (ifGiven isDate (p .dtFrom)) (ifGiven isDate (p .dtTo)) (validDetail (p .po) sequencesInside) (middle .0) in
+    record { from = first .0; to = first .1; detail = first .2; meal = middle .1; unit = middle .2; instructions = middle .3; roa = last .1; moa = last .2; ordered = last .3 }
+
 pub valid-parts : (purpose : ℕ) (p : Posology) → valid purpose p ≡ true → ValidParts purpose p
-unfolding valid validFields
-valid-parts purpose p v =
-    let n = all-nine (ifGiven isDate (p .dtFrom)) (ifGiven isDate (p .dtTo)) (validDetail (p .po) sequencesInside) (ifGiven isMeal (p .relMeal)) (isUnitFor purpose (p .unit)) (ifGiven isText (p .applInstr)) (ifGiven isText (p .roa)) (ifGiven isText (p .moa)) (inOrder (p .dtFrom) (p .dtTo)) (and-left (validFields purpose p) (leb (detailRecords (p .po)) recordsAtMost) v) in
-    record { from = n .0; to = n .1; detail = n .2; meal = n .3; unit = n .4; instructions = n .5; roa = n .6; moa = n .7; ordered = n .8 }
+unfolding valid
+valid-parts purpose p v = fields-parts purpose p (and-left (validFields purpose p) (leb (detailRecords (p .po)) recordsAtMost) v)
 
 pub few-records : (purpose : ℕ) (p : Posology) → valid purpose p ≡ true → detailRecords (p .po) ≤ recordsAtMost
 unfolding valid

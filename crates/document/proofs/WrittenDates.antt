@@ -10,8 +10,9 @@ use borrow.Author.Tests.{leb-true, le-leb, eqb-true, ne-eqb}
 use Rattle.document.specs.Posology.{Day, Zone, east, west, Date, bare, moment}
 use Rattle.document.specs.Date.{among, leap, daysIn, isDay, isZone, isSecond, isDate, isDigit, pair, Behind, two, then, only, clock, seconds, timeOf, dayOf, minutesWest, zone, dateOf}
 use Rattle.document.specs.Plain as P
-use Rattle.json.proofs.Truth.{and-both, and-left, and-right, cond-true}
+use Rattle.json.proofs.Truth.{and-both, cond-true}
 use Rattle.document.proofs.Ranges.{in-range}
+use Rattle.document.proofs.DetailParts.{all-three, all-four}
 
 then-to : {A B : Type 0} (o : Option A) (a : A) (f : A → Option B) (z : Option B) → o ≡ some a → f a ≡ z → then o f ≡ z
 then-to {A} o a f z e g = ap (λ (q : Option A). then q f) e ∙ g
@@ -83,10 +84,9 @@ month-small y m d p q = go (among m (1 ∷ 3 ∷ 5 ∷ 7 ∷ 8 ∷ 10 ∷ 12 ∷
 pub small-day : (d : Day) → isDay d ≡ true → (d .year ≤ 2199) × (d .month ≤ 12) × (d .day ≤ 31)
 unfolding isDay
 small-day d v =
-    let v₁ = and-left (leb 1900 (d .year) && leb (d .year) 2199 && leb 1 (d .day)) (leb (d .day) (daysIn (d .year) (d .month))) v in
-    let v₂ = and-left (leb 1900 (d .year) && leb (d .year) 2199) (leb 1 (d .day)) v₁ in
-    let m = month-small (d .year) (d .month) (d .day) (and-right (leb 1900 (d .year) && leb (d .year) 2199) (leb 1 (d .day)) v₁) (and-right (leb 1900 (d .year) && leb (d .year) 2199 && leb 1 (d .day)) (leb (d .day) (daysIn (d .year) (d .month))) v) in
-    (leb-true (d .year) 2199 (and-right (leb 1900 (d .year)) (leb (d .year) 2199) v₂), m .0, m .1)
+    let w = all-four (leb 1900 (d .year)) (leb (d .year) 2199) (leb 1 (d .day)) (leb (d .day) (daysIn (d .year) (d .month))) v in
+    let m = month-small (d .year) (d .month) (d .day) (w .2) (w .3) in
+    (leb-true (d .year) 2199 (w .1), m .0, m .1)
 
 some-minutes : (n : ℕ) → eqb n 0 ≡ false → minutesWest n ≡ west n
 some-minutes n e = ap (λ (b : Bool). cond b (east 0) (west n)) e
@@ -121,8 +121,8 @@ zone-reads (west n) v =
 
 pub moment-parts : (d : Day) (s : ℕ) (z : Zone) → isDate (moment d s z) ≡ true → record { day : isDay d ≡ true; second : isSecond s ≡ true; zone : isZone z ≡ true }
 moment-parts d s z v =
-    let w = and-left (isDay d && isSecond s) (isZone z) v in
-    record { day = and-left (isDay d) (isSecond s) w; second = and-right (isDay d) (isSecond s) w; zone = and-right (isDay d && isSecond s) (isZone z) v }
+    let w = all-three (isDay d) (isSecond s) (isZone z) v in
+    record { day = w .0; second = w .1; zone = w .2 }
 
 pub date-reads : (d : Date) → isDate d ≡ true → dateOf (P.dateText d) ≡ some d
 unfolding dateOf
