@@ -93,44 +93,23 @@ module _ (ds : List (Entry Meaning)) (l l″ : Left) where
       )
   dosage-parts (suc (suc (suc zero))) x h f g =
       let a = f .0 in let f₁ = f .2 in let b = f₁ .0 in
-      let v = range-parts a b (ap validDosage (f₁ .2) ∙ g .valid) in (
-        a,
-        l₁,
-        f .1,
-        good-free (aNumber (decimal 1)) a l₁ (and-both (v .some) (v .least)) refl refl,
-        (
-          b,
-          l₁,
-          f₁ .1,
-          good-free (aNumber (decimal 0)) b l₁ (amount-of b (v .most)) refl refl,
-          (v .rises, f₁ .2, nothing-taken l₁ l″ (inner 0 0 l l″ (g .takes))),
-        ),
-      )
+      let v = range-parts a b (ap validDosage (f₁ .2) ∙ g .valid) in
+      (a, l₁, f .1, good-free (aNumber (decimal 1)) a l₁ (and-both (v .some) (v .least)) refl refl, (b, l₁, f₁ .1, good-free (aNumber (decimal 0)) b l₁ (amount-of b (v .most)) refl refl, (v .rises, f₁ .2, nothing-taken l₁ l″ (inner 0 0 l l″ (g .takes)))))
   dosage-parts (suc (suc (suc (suc t)))) x h f g = absurd (above 3 (suc (suc (suc (suc t)))) (omega arith) h)
 
   pub at-time-parts : (x : AtTime) → FieldsMean (rowsOf anAtTime 0) ds x → Good (anObject anAtTime) x l l″ → Parts (rowsOf anAtTime 0) ds l₁ x l″
   unfolding rowsOf
   at-time-parts x f g =
       let d = f .0 in let f₁ = f .2 in let dt = f₁ .0 in
-      let v : (validDosage d && isSecond dt) ≡ true = ap validAtTime (f₁ .2) ∙ g .valid in (
-        d,
-        l″,
-        f .1,
-        record { valid = and-left (validDosage d) (isSecond dt) v; takes = inner 1 0 l l″ (g .takes) },
-        (dt, l″, f₁ .1, good-free (aString time) dt l″ (and-right (validDosage d) (isSecond dt) v) refl refl, (f₁ .2, refl)),
-      )
+      let v : (validDosage d && isSecond dt) ≡ true = ap validAtTime (f₁ .2) ∙ g .valid in
+      (d, l″, f .1, record { valid = and-left (validDosage d) (isSecond dt) v; takes = inner 1 0 l l″ (g .takes) }, (dt, l″, f₁ .1, good-free (aString time) dt l″ (and-right (validDosage d) (isSecond dt) v) refl refl, (f₁ .2, refl)))
 
   pub in-segment-parts : (x : InSegment) → FieldsMean (rowsOf anInSegment 0) ds x → Good (anObject anInSegment) x l l″ → Parts (rowsOf anInSegment 0) ds l₁ x l″
   unfolding rowsOf
   in-segment-parts x f g =
       let d = f .0 in let f₁ = f .2 in let s = f₁ .0 in
-      let v : (validDosage d && (leb 1 s && leb s 4)) ≡ true = ap validInSegment (f₁ .2) ∙ g .valid in (
-        d,
-        l″,
-        f .1,
-        record { valid = and-left (validDosage d) (leb 1 s && leb s 4) v; takes = inner 1 0 l l″ (g .takes) },
-        (s, l″, f₁ .1, good-free (aNumber (integer 1 4)) s l″ (and-right (validDosage d) (leb 1 s && leb s 4) v) refl refl, (f₁ .2, refl)),
-      )
+      let v : (validDosage d && (leb 1 s && leb s 4)) ≡ true = ap validInSegment (f₁ .2) ∙ g .valid in
+      (d, l″, f .1, record { valid = and-left (validDosage d) (leb 1 s && leb s 4) v; takes = inner 1 0 l l″ (g .takes) }, (s, l″, f₁ .1, good-free (aNumber (integer 1 4)) s l″ (and-right (validDosage d) (leb 1 s && leb s 4) v) refl refl, (f₁ .2, refl)))
 
   module _ (ts : List ℕ) where
     -- the takes of a timed dosage that is made of its fields
@@ -142,55 +121,28 @@ module _ (ds : List (Entry Meaning)) (l l″ : Left) where
     timed-parts zero x h f g = absurd (false≢true h)
     timed-parts (suc zero) x h f g =
         let d = f .0 in let g′ = timed-takes (dosageOnly d) x (f .2) g in
-        let v = dosage-only-parts d ts (g′ .valid) in (
-          v .allowed,
-          opens 1 0 l l″ (g′ .takes),
-          (d, l″, f .1, record { valid = v .dosage; takes = inner 1 0 l l″ (g′ .takes) }, (f .2, refl)),
-        )
+        let v = dosage-only-parts d ts (g′ .valid) in
+        (v .allowed, opens 1 0 l l″ (g′ .takes), (d, l″, f .1, record { valid = v .dosage; takes = inner 1 0 l l″ (g′ .takes) }, (f .2, refl)))
     timed-parts (suc (suc zero)) x h f g =
         let as′ = f .0 in let g′ = timed-takes (times as′) x (f .2) g in
         let v = times-parts as′ ts (g′ .valid) in
         let e : length as′ + length as′ ≡ sum (λ (a : AtTime). 2) as′ = sym (sum-two as′) in
-        let z : 0 ≡ sum (λ (a : AtTime). 0) as′ = sym (sum-none as′) in (
-          v .allowed,
-          opens (length as′ + length as′) 0 l l″ (g′ .takes),
-          (as′, l″, f .1, record { valid = v .each; takes = takes-as e z (inner (length as′ + length as′) 0 l l″ (g′ .takes)) }, (f .2, refl)),
-        )
+        let z : 0 ≡ sum (λ (a : AtTime). 0) as′ = sym (sum-none as′) in
+        (v .allowed, opens (length as′ + length as′) 0 l l″ (g′ .takes), (as′, l″, f .1, record { valid = v .each; takes = takes-as e z (inner (length as′ + length as′) 0 l l″ (g′ .takes)) }, (f .2, refl)))
     timed-parts (suc (suc (suc zero))) x h f g =
         let as′ = f .0 in let g′ = timed-takes (daySegments as′) x (f .2) g in
         let v = segments-parts as′ ts (g′ .valid) in
         let e : length as′ + length as′ ≡ sum (λ (a : InSegment). 2) as′ = sym (sum-two as′) in
-        let z : 0 ≡ sum (λ (a : InSegment). 0) as′ = sym (sum-none as′) in (
-          v .allowed,
-          opens (length as′ + length as′) 0 l l″ (g′ .takes),
-          (as′, l″, f .1, record { valid = v .each; takes = takes-as e z (inner (length as′ + length as′) 0 l l″ (g′ .takes)) }, (f .2, refl)),
-        )
+        let z : 0 ≡ sum (λ (a : InSegment). 0) as′ = sym (sum-none as′) in
+        (v .allowed, opens (length as′ + length as′) 0 l l″ (g′ .takes), (as′, l″, f .1, record { valid = v .each; takes = takes-as e z (inner (length as′ + length as′) 0 l l″ (g′ .takes)) }, (f .2, refl)))
     timed-parts (suc (suc (suc (suc zero)))) x h f g =
         let set = f .0 in let f₁ = f .2 in let td = f₁ .0 in let g′ = timed-takes (weekDays set td) x (f₁ .2) g in
-        let v = week-parts set td ts (g′ .valid) in (
-          v .allowed,
-          opens (timedRecords td) 0 l l″ (g′ .takes),
-          (
-            set,
-            l₁,
-            f .1,
-            good-free (aList (days 7)) set l₁ (v .days) refl refl,
-            (td, l″, f₁ .1, record { valid = v .timed; takes = inner (timedRecords td) 0 l l″ (g′ .takes) }, (f₁ .2, refl)),
-          ),
-        )
+        let v = week-parts set td ts (g′ .valid) in
+        (v .allowed, opens (timedRecords td) 0 l l″ (g′ .takes), (set, l₁, f .1, good-free (aList (days 7)) set l₁ (v .days) refl refl, (td, l″, f₁ .1, record { valid = v .timed; takes = inner (timedRecords td) 0 l l″ (g′ .takes) }, (f₁ .2, refl))))
     timed-parts (suc (suc (suc (suc (suc zero))))) x h f g =
         let set = f .0 in let f₁ = f .2 in let td = f₁ .0 in let g′ = timed-takes (daysOfMonth set td) x (f₁ .2) g in
-        let v = month-parts set td ts (g′ .valid) in (
-          v .allowed,
-          opens (timedRecords td) 0 l l″ (g′ .takes),
-          (
-            set,
-            l₁,
-            f .1,
-            good-free (aList (days 28)) set l₁ (v .days) refl refl,
-            (td, l″, f₁ .1, record { valid = v .timed; takes = inner (timedRecords td) 0 l l″ (g′ .takes) }, (f₁ .2, refl)),
-          ),
-        )
+        let v = month-parts set td ts (g′ .valid) in
+        (v .allowed, opens (timedRecords td) 0 l l″ (g′ .takes), (set, l₁, f .1, good-free (aList (days 28)) set l₁ (v .days) refl refl, (td, l″, f₁ .1, record { valid = v .timed; takes = inner (timedRecords td) 0 l l″ (g′ .takes) }, (f₁ .2, refl))))
     timed-parts (suc (suc (suc (suc (suc (suc zero)))))) x h f g =
         let d = f .0 in let f₁ = f .2 in let du = f₁ .0 in let f₂ = f₁ .2 in let unit = f₂ .0 in let g′ = timed-takes (interval d du unit) x (f₂ .2) g in
         let v = interval-parts d du unit ts (g′ .valid) in (
@@ -222,11 +174,8 @@ unfolding validDetail
 sequence-back zero os v = absurd (false≢true v)
 sequence-back (suc k) os v =
     let e : k ≡ suc k - 1 = omega arith in
-    let w = sequence-parts (ordered os) k v in (
-      lt-ltb 0 (suc k) (omega arith),
-      subst (λ (j : ℕ). (not (isEmpty os) && every (λ o. validObject o j) os) ≡ true) e
-          (and-both (sym (some-object os) ∙ w .some) (sym (objects-valid k os) ∙ w .objects)),
-    )
+    let w = sequence-parts (ordered os) k v in
+    (lt-ltb 0 (suc k) (omega arith), subst (λ (j : ℕ). (not (isEmpty os) && every (λ o. validObject o j) os) ≡ true) e (and-both (sym (some-object os) ∙ w .some) (sym (objects-valid k os) ∙ w .objects)))
 
 module _ (ds : List (Entry Meaning)) (l l″ : Left) (n : ℕ) where
   detail-made : (y : Detail) (x : Detail) → y ≡ x → Good (anObject (aDetail n)) x l l″ → Good (anObject (aDetail n)) y l l″

@@ -58,22 +58,8 @@ dosage-means (fromTo a b u du) v =
       ),
     )
 dosage-means (range a b) v =
-    let w = range-parts a b v in (
-      refl,
-      (
-        3,
-        (refl, whole-means 1 3 3 (omega arith)),
-        refl,
-        (
-          refl,
-          (
-            a,
-            (refl, amount-means 1 a (amount a (w .least))),
-            (b, (refl, amount-means 0 b (amount b (w .most))), refl),
-          ),
-        ),
-      ),
-    )
+    let w = range-parts a b v in
+    (refl, (3, (refl, whole-means 1 3 3 (omega arith)), refl, (refl, (a, (refl, amount-means 1 a (amount a (w .least))), (b, (refl, amount-means 0 b (amount b (w .most))), refl)))))
 
 -- A value that means an object is not absent.
 there : (t : Tree) (f : Family) (x : OfFamily f) → meaningOf t .means (anObject f) x → meaningOf t .absent (anObject f) ≡ false
@@ -92,20 +78,16 @@ times-mean : (ts : List AtTime) → every validAtTime ts ≡ true → EachMeans 
 unfolding meaningOf rowsOf
 times-mean [] v = tt
 times-mean (atTime d dt ∷ ts) v =
-    let w = first-time d dt ts v in (
-      (refl, (refl, (d, given-object (dosageTree d) aDosage d (dosage-means d (w .dosage)), (dt, (refl, time-reads dt (w .time)), refl)))),
-      times-mean ts (w .rest),
-    )
+    let w = first-time d dt ts v in
+    ((refl, (refl, (d, given-object (dosageTree d) aDosage d (dosage-means d (w .dosage)), (dt, (refl, time-reads dt (w .time)), refl)))), times-mean ts (w .rest))
 
 segments-mean : (ss : List InSegment) → every validInSegment ss ≡ true → EachMeans (anObject anInSegment) (meantElements (segmentsTree ss)) ss
 unfolding meaningOf rowsOf
 segments-mean [] v = tt
 segments-mean (inSegment d s ∷ ss) v =
     let w = first-segment d s ss v in
-    let h = in-range 1 s 4 (w .segment) in (
-      (refl, (refl, (d, given-object (dosageTree d) aDosage d (dosage-means d (w .dosage)), (s, (refl, whole-means 1 4 s (omega arith)), refl)))),
-      segments-mean ss (w .rest),
-    )
+    let h = in-range 1 s 4 (w .segment) in
+    ((refl, (refl, (d, given-object (dosageTree d) aDosage d (dosage-means d (w .dosage)), (s, (refl, whole-means 1 4 s (omega arith)), refl)))), segments-mean ss (w .rest))
 
 each-day : (hi from : ℕ) (ds : List ℕ) → hi ≤ 28 → climbs from hi ds ≡ true → EachMeans (aNumber (integer 1 hi)) (meantElements (daysTree ds)) ds
 unfolding meaningOf

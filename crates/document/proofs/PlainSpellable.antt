@@ -73,31 +73,8 @@ dosage-spells : (d : Dosage) → validDosage d ≡ true → Spellable (dosageTre
 unfolding dosageTree Spellable isUtf8 wellFormed look
 dosage-spells (simple a) v = (refl, (whole-numeral 1 (omega arith), (refl, (amount-numeral a (amount a (simple-parts a v .most)), tt))))
 dosage-spells (fromTo a b u du) v =
-    let w = from-to-parts a b u du v in (
-      refl,
-      (
-        whole-numeral 2 (omega arith),
-        (
-          refl,
-          (
-            amount-numeral a (amount a (w .least)),
-            (
-              refl,
-              (
-                amount-numeral b (amount b (w .most)),
-                (
-                  refl,
-                  (
-                    whole-numeral u (unit u (w .unit)),
-                    (refl, (whole-numeral du (duration du (w .duration)), tt)),
-                  ),
-                ),
-              ),
-            ),
-          ),
-        ),
-      ),
-    )
+    let w = from-to-parts a b u du v in
+    (refl, (whole-numeral 2 (omega arith), (refl, (amount-numeral a (amount a (w .least)), (refl, (amount-numeral b (amount b (w .most)), (refl, (whole-numeral u (unit u (w .unit)), (refl, (whole-numeral du (duration du (w .duration)), tt))))))))))
 dosage-spells (range a b) v =
     let w = range-parts a b v in
     (refl, (whole-numeral 3 (omega arith), (refl, (amount-numeral a (amount a (w .least)), (refl, (amount-numeral b (amount b (w .most)), tt))))))
@@ -137,25 +114,8 @@ timed-spells (daysOfMonth ds td) ts v =
     let w = month-parts ds td ts v in
     (refl, (whole-numeral 5 (omega arith), (refl, (days-spell 28 ds (omega arith) (w .days), (refl, (timed-spells td underDays (w .timed), tt))))))
 timed-spells (interval d du u) ts v =
-    let w = interval-parts d du u ts v in (
-      refl,
-      (
-        whole-numeral 6 (omega arith),
-        (
-          refl,
-          (
-            dosage-spells d (w .dosage),
-            (
-              refl,
-              (
-                whole-numeral du (duration du (w .duration)),
-                (refl, (whole-numeral u (unit u (w .unit)), tt)),
-              ),
-            ),
-          ),
-        ),
-      ),
-    )
+    let w = interval-parts d du u ts v in
+    (refl, (whole-numeral 6 (omega arith), (refl, (dosage-spells d (w .dosage), (refl, (whole-numeral du (duration du (w .duration)), (refl, (whole-numeral u (unit u (w .unit)), tt))))))))
 
 -- Details.
 last-spells : (b : Bool) (per : ℕ) → isDuration per ≡ true → SpellableMembers (fieldIf b "tdpc" (whole per) noMember)
@@ -168,71 +128,20 @@ mutual
 
   detail-spells : (d : Detail) (n : ℕ) → validDetail d n ≡ true → Spellable (detailTree d)
   detail-spells (daily a b c d) n v =
-      let w = daily-parts a b c d n v in (
-        refl,
-        (
-          whole-numeral 1 (omega arith),
-          (
-            refl,
-            (
-              (amount-numeral a (amount a (w .morning)), (amount-numeral b (amount b (w .noon)), (amount-numeral c (amount c (w .evening)), (amount-numeral d (amount d (w .night)), tt)))),
-              tt,
-            ),
-          ),
-        ),
-      )
+      let w = daily-parts a b c d n v in
+      (refl, (whole-numeral 1 (omega arith), (refl, ((amount-numeral a (amount a (w .morning)), (amount-numeral b (amount b (w .noon)), (amount-numeral c (amount c (w .evening)), (amount-numeral d (amount d (w .night)), tt)))), tt))))
   detail-spells (freeText cs) n v = (refl, (whole-numeral 2 (omega arith), (refl, (text-parts cs v .utf8, tt))))
   detail-spells (single td) n v = (refl, (whole-numeral 3 (omega arith), (refl, (timed-spells td underSingle v, tt))))
   detail-spells (cyclic u du td per) n v =
-      let w = cyclic-parts u du td per n v in (
-        refl,
-        (
-          whole-numeral 4 (omega arith),
-          (
-            refl,
-            (
-              whole-numeral u (unit u (w .unit)),
-              (
-                refl,
-                (
-                  whole-numeral du (duration du (w .duration)),
-                  (
-                    refl,
-                    (
-                      timed-spells td (underCyclic u) (w .timed),
-                      last-spells (not (eqb per 1)) per (w .per),
-                    ),
-                  ),
-                ),
-              ),
-            ),
-          ),
-        ),
-      )
+      let w = cyclic-parts u du td per n v in
+      (refl, (whole-numeral 4 (omega arith), (refl, (whole-numeral u (unit u (w .unit)), (refl, (whole-numeral du (duration du (w .duration)), (refl, (timed-spells td (underCyclic u) (w .timed), last-spells (not (eqb per 1)) per (w .per)))))))))
   detail-spells (sequence os) zero v = absurd (false≢true v)
   detail-spells (sequence os) (suc n) v = (refl, (whole-numeral 5 (omega arith), (refl, (objects-spell os n (sequence-parts os n v .objects), tt))))
 
   object-spells : (o : SequenceObject) (n : ℕ) → validObject o n ≡ true → Spellable (objectTree o)
   object-spells (posologySequence du u po) n v =
-      let w = posology-sequence-parts du u po n v in (
-        refl,
-        (
-          whole-numeral 1 (omega arith),
-          (
-            refl,
-            (
-              whole-numeral du (duration du (w .duration)),
-              (
-                refl,
-                (
-                  whole-numeral u (unit u (w .unit)),
-                  (refl, (detail-spells po n (w .detail), tt)),
-                ),
-              ),
-            ),
-          ),
-        ),
-      )
+      let w = posology-sequence-parts du u po n v in
+      (refl, (whole-numeral 1 (omega arith), (refl, (whole-numeral du (duration du (w .duration)), (refl, (whole-numeral u (unit u (w .unit)), (refl, (detail-spells po n (w .detail), tt))))))))
   object-spells (pause du u) n v =
       let w = pause-parts du u n v in
       (refl, (whole-numeral 2 (omega arith), (refl, (whole-numeral du (duration du (w .duration)), (refl, (whole-numeral u (unit u (w .unit)), tt))))))
