@@ -7,7 +7,7 @@ use lib.ListN.{length, take, drop}
 use lib.Seq.{length-take-le}
 use lib.Dec.{leb}
 use native.Mathlib.Omega.{arith}
-use borrow.Author.Tests.{leb-true, le-leb, lt-leb, not-true, not-false}
+use borrow.Author.Tests.{leb-true, lt-leb, not-true, not-false}
 use Rattle.numbers.specs.declared.Integer.{Integer}
 use Rattle.numbers.specs.declared.Integer.the-variants.{NotCarried, Outside}
 use Rattle.numbers.specs.declared.Decimal.{Decimal}
@@ -19,14 +19,6 @@ use Rattle.numbers.proofs.Digits.{padded-least}
 
 -- "at most 18 characters"
 module _ (raw : List ℕ) where
-  pub too-long : 18 < length raw → false ≡ carried raw
-  unfolding carried
-  too-long h = rw (lt-leb (length raw) 18 h)
-
-  pub short-enough : length raw ≤ 18 → not (exponent raw) ≡ carried raw
-  unfolding carried
-  short-enough h = rw (le-leb (length raw) 18 h)
-
   carried-length : carried raw ≡ true → length raw ≤ 18
   unfolding carried
   carried-length e = leb-true (length raw) 18 (and-left (leb (length raw) 18) (not (exponent raw)) e)

@@ -2,11 +2,12 @@
 use Prim.Native.Nat.{ℕ, suc, _+_, _-_, _<_, _≤_}
 use mathlib.Core.Path.{_≡_, refl, sym, _∙_}
 use mathlib.Core.List.{List, _++_, append-nil}
-use lib.ListN.{length, getD, take, drop, length-drop, drop-of-length-le}
-use lib.Seq.{drop-cons, take-suc, take-all, append-snoc}
+use lib.ListN.{length, getD, take, drop, drop-of-length-le}
+use lib.Seq.{drop-cons, take-suc, append-snoc}
 use native.Mathlib.Omega.{arith}
 use native.Mathlib.Numerals.{add-one}
 use borrow.Author.Tests.{eq-eqb, ne-eqb}
+use Rattle.figures.proofs.Bytes.{rest}
 use Rattle.numbers.specs.Number.{beforePoint, behindPoint}
 use Rattle.numbers.specs.Point.{Parts}
 
@@ -49,10 +50,6 @@ module _ (raw : List ℕ) (i : ℕ) (inv : NoPoint raw i) where
       }
 
 pub ruleset points = (point-start, point-here, point-more, point-none)
-
--- A part to the end is all from k on.
-pub rest : (k : ℕ) (l : List ℕ) → take (length l - k) (drop k l) ≡ drop k l
-rest k l = take-all (length l - k) (drop k l) (rw length-drop (omega arith))
 
 -- The fraction: what stands behind the point, or nothing.
 module _ (raw : List ℕ) (point : ℕ) (p : Parts raw point) where

@@ -1,24 +1,16 @@
 -- Document 01, "Numbers", and rows 8 and 9: a number by the bytes that it is written with.
 use Prim.Native.Nat.{ℕ, zero, suc, _+_, _*_, _-_}
 use mathlib.Core.List.{List, [], _∷_}
-use mathlib.Core.Bool.{Bool, true, false, _&&_, _||_, not, cond}
-use lib.ListN.{length, drop}
-use lib.Dec.{eqb, leb, ltb}
+use mathlib.Core.Bool.{Bool, _&&_, cond}
+use lib.ListN.{drop}
+use lib.Dec.{eqb, leb}
+pub use Rattle.figures.specs.Figures.{negative, up}
+unfoldable pub use Rattle.figures.specs.Figures.{exponent, allZero, carried}
 use Rattle.json.specs.Rows.{else, below, look, choose}
 use Rattle.numbers.specs.declared.Integer.{Integer}
 use Rattle.numbers.specs.declared.Integer.the-variants.{Whole, NotCarried, Outside}
 use Rattle.numbers.specs.declared.Decimal.{Decimal}
 use Rattle.numbers.specs.declared.Decimal.the-variants.{Millionths, NotCarried as NotCarriedD, Outside as OutsideD}
-
--- "A minus sign is out of range, -0 too."
-abbrev pub negative : List ℕ → Bool
-negative [] = false
-negative (b ∷ s) = eqb b 45
-
--- E or e
-unfoldable pub exponent : List ℕ → Bool
-exponent [] = false
-exponent (b ∷ s) = eqb b 69 || (eqb b 101 || exponent s)
 
 -- What stands before the point, and behind it.
 unfoldable pub beforePoint : List ℕ → List ℕ
@@ -39,20 +31,6 @@ unfoldable pub counted : ℕ → List ℕ → ℕ
 unfolding figure
 counted v [] = v
 counted v (b ∷ s) = counted (v * 10 + figure b) s
-
-unfoldable pub allZero : List ℕ → Bool
-allZero [] = true
-allZero (b ∷ s) = eqb b 48 && allZero s
-
--- "at most 18 characters, no exponent"
-unfoldable pub carried : List ℕ → Bool
-unfolding exponent
-carried raw = leb (length raw) 18 && not (exponent raw)
-
--- "For an integer, a fraction is rounded to the closest whole, one half upward": by its first digit.
-abbrev pub up : List ℕ → ℕ
-up [] = 0
-up (b ∷ s) = cond (ltb b 53) 0 1
 
 unfoldable pub rounded : List ℕ → ℕ
 unfolding counted beforePoint behindPoint

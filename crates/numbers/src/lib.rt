@@ -4,7 +4,7 @@ ghost use mathlib.Core.Path.{_≡_};
 ghost use Prim.Native.Nat.{_≤_, _<_, _^_};
 ghost use lib.ListN.{length, drop};
 ghost use Rattle.moving.specs.Read.{written};
-ghost use Rattle.numbers.specs.Number.{negative, exponent, carried, figure as figureOf, counted as countedIn, allZero, behindPoint, padded as paddedIn, up, among, integerIn, amount, decimalFrom};
+ghost use Rattle.numbers.specs.Number.{figure as figureOf, counted as countedIn, behindPoint, padded as paddedIn, among, integerIn, amount, decimalFrom};
 ghost use Rattle.numbers.specs.Point.{Parts};
 
 // An integer and whether its fraction was zero; or refusal 8; or refusal 9.
@@ -21,46 +21,8 @@ pub enum Decimal {
     Outside,
 }
 
-// "at most 18 characters"
-const CHARACTERS: usize = 18;
-
 // 999,999.999999
 const MOST: u64 = 999999999999;
-
-fn is_negative(raw: &[u8]) -> bool
-    ensures { λ r. ⌜ r ≡ negative (now (raw .entry)) ⌝ }
-{
-    if raw.len() == 0 {
-        return false;
-    }
-    raw[0] == b'-'
-}
-
-fn has_exponent(raw: &[u8]) -> bool
-    ensures { λ r. ⌜ r ≡ exponent (now (raw .entry)) ⌝ }
-{
-    let mut i = 0;
-    while i < raw.len() {
-        let b = raw[i];
-        if b == b'E' {
-            return true;
-        }
-        if b == b'e' {
-            return true;
-        }
-        i += 1;
-    }
-    false
-}
-
-fn is_carried(raw: &[u8]) -> bool
-    ensures { λ r. ⌜ r ≡ carried (now (raw .entry)) ⌝ }
-{
-    if CHARACTERS < raw.len() {
-        return false;
-    }
-    !has_exponent(raw)
-}
 
 // The place of the point, or the length.
 fn point_at(raw: &[u8]) -> usize
@@ -120,19 +82,6 @@ fn padded(raw: &[u8], v: u64) -> u64
     n
 }
 
-fn is_all_zero(raw: &[u8]) -> bool
-    ensures { λ r. ⌜ r ≡ allZero (now (raw .entry)) ⌝ }
-{
-    let mut i = 0;
-    while i < raw.len() {
-        if raw[i] != b'0' {
-            return false;
-        }
-        i += 1;
-    }
-    true
-}
-
 // The fraction of a number whose point, or whose end, is at `point`.
 fn fraction_at(raw: &[u8], point: usize) -> &[u8]
     requires { ⌜ Parts (now raw) point ⌝ }
@@ -142,19 +91,6 @@ fn fraction_at(raw: &[u8], point: usize) -> &[u8]
         return &raw[point + 1..];
     }
     &raw[point..]
-}
-
-// One more where the fraction is a half or more.
-fn rounding(fraction: &[u8]) -> u64
-    ensures { λ r. ⌜ r ≡ up (now (fraction .entry)) ⌝ }
-{
-    if fraction.len() == 0 {
-        return 0;
-    }
-    if fraction[0] < b'5' {
-        return 0;
-    }
-    1
 }
 
 fn integer_among(least: u64, most: u64, n: u64, exact: bool) -> Integer
@@ -173,10 +109,10 @@ fn integer_among(least: u64, most: u64, n: u64, exact: bool) -> Integer
 pub fn integer_of(raw: &[u8], least: u64, most: u64) -> Integer
     ensures { λ r. ⌜ r ≡ integerIn least most (now (raw .entry)) ⌝ }
 {
-    if !is_carried(raw) {
+    if !figures::is_carried(raw) {
         return Integer::NotCarried;
     }
-    if is_negative(raw) {
+    if figures::is_negative(raw) {
         return Integer::Outside;
     }
     let point = point_at(raw);
@@ -185,19 +121,9 @@ pub fn integer_of(raw: &[u8], least: u64, most: u64) -> Integer
     integer_among(
         least,
         most,
-        whole + rounding(fraction),
-        is_all_zero(fraction),
+        whole + figures::rounding(fraction),
+        figures::is_all_zero(fraction),
     )
-}
-
-// Whether a fraction is one of whole millionths.
-fn has_millionths(fraction: &[u8]) -> bool
-    ensures { λ r. ⌜ r ≡ allZero (drop 6 (now (fraction .entry))) ⌝ }
-{
-    if fraction.len() <= 6 {
-        return true;
-    }
-    is_all_zero(&fraction[6..])
 }
 
 fn amount_from(least: u64, n: u64) -> Decimal
@@ -216,15 +142,15 @@ fn amount_from(least: u64, n: u64) -> Decimal
 pub fn decimal_of(raw: &[u8], least: u64) -> Decimal
     ensures { λ r. ⌜ r ≡ decimalFrom least (now (raw .entry)) ⌝ }
 {
-    if !is_carried(raw) {
+    if !figures::is_carried(raw) {
         return Decimal::NotCarried;
     }
     let point = point_at(raw);
     let fraction = fraction_at(raw, point);
-    if !has_millionths(fraction) {
+    if !figures::has_millionths(fraction) {
         return Decimal::NotCarried;
     }
-    if is_negative(raw) {
+    if figures::is_negative(raw) {
         return Decimal::Outside;
     }
     let whole = counted(&raw[..point]);

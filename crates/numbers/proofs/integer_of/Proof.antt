@@ -2,7 +2,7 @@
 use native.Mathlib.Omega.{arith}
 use borrow.Author.Needs.{needs}
 use denote.Ref.{now}
-use Rattle.numbers.proofs.Bytes.{up-one}
+use Rattle.figures.proofs.Bytes.{up-one}
 use Rattle.numbers.proofs.Answers.{parts, integers}
 use Rattle.numbers.proofs.integer_of.Statement.{statement}
 use Rattle.numbers.proofs.integer_of.Tie as tie

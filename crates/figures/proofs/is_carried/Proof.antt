@@ -1,12 +1,12 @@
--- `number::is_carried` meets its contract: a number that is not too long is carried just if it has no exponent.
+-- `figures::is_carried` meets its contract: a number that is not too long is carried just if it has no exponent.
 use mathlib.Core.Path.{ap, _∙_}
 use mathlib.Core.Bool.{not}
 use native.Mathlib.Omega.{arith}
 use borrow.Author.Needs.{needs}
 use denote.Ref.{now}
-use Rattle.numbers.proofs.Answers.{too-long, short-enough}
-use Rattle.numbers.proofs.is_carried.Statement.{statement}
-use Rattle.numbers.proofs.is_carried.Tie as tie
+use Rattle.figures.proofs.Bytes.{too-long, short-enough}
+use Rattle.figures.proofs.is_carried.Statement.{statement}
+use Rattle.figures.proofs.is_carried.Tie as tie
 
 returns : tie.Need-returns
 returns c = too-long (now (c .before .before .args .raw)) (omega arith)

@@ -1,10 +1,10 @@
--- `number::rounding` meets its contract: the first digit tells.
+-- `figures::rounding` meets its contract: the first digit tells.
 use native.Mathlib.Omega.{arith}
 use borrow.Author.Needs.{needs}
 use denote.Ref.{now}
-use Rattle.numbers.proofs.Bytes.{up-none, up-below, up-half}
-use Rattle.numbers.proofs.rounding.Statement.{statement}
-use Rattle.numbers.proofs.rounding.Tie as tie
+use Rattle.figures.proofs.Bytes.{up-none, up-below, up-half}
+use Rattle.figures.proofs.rounding.Statement.{statement}
+use Rattle.figures.proofs.rounding.Tie as tie
 
 returns : tie.Need-returns
 returns c = up-none (now (c .before .args .fraction)) (c .if1 .taken)

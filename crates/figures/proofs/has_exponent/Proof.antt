@@ -1,13 +1,13 @@
--- `number::has_exponent` meets its contract: what is left has an exponent just if the number has.
+-- `figures::has_exponent` meets its contract: what is left has an exponent just if the number has.
 use Prim.Native.Nat.{_≤_, _-_}
 use mathlib.Core.Path.{_≡_, refl}
 use native.Mathlib.Omega.{arith}
 use borrow.Author.Needs.{needs}
 use lib.ListN.{length, drop}
-use Rattle.numbers.specs.Number.{exponent}
-use Rattle.numbers.proofs.Bytes.{exponents}
-use Rattle.numbers.proofs.has_exponent.Statement.{statement}
-use Rattle.numbers.proofs.has_exponent.Tie as tie
+use Rattle.figures.specs.Figures.{exponent}
+use Rattle.figures.proofs.Bytes.{exponents}
+use Rattle.figures.proofs.has_exponent.Statement.{statement}
+use Rattle.figures.proofs.has_exponent.Tie as tie
 
 abbrev Inv-loop : tie.InvT-loop
 Inv-loop raw i₀ i = (i ≤ length raw) × (exponent (drop i raw) ≡ exponent raw)

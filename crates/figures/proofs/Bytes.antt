@@ -1,15 +1,15 @@
 -- A number byte by byte: what the byte at i, and the end, say of the whole.
-use Prim.Native.Nat.{ℕ, _+_, _<_, _≤_}
+use Prim.Native.Nat.{ℕ, _+_, _-_, _<_, _≤_}
 use mathlib.Core.Path.{_≡_, refl, _∙_}
 use mathlib.Core.List.{List, [], _∷_}
-use mathlib.Core.Bool.{Bool, true, false, cond}
-use lib.ListN.{length, getD, drop, drop-of-length-le}
-use lib.Seq.{drop-cons}
+use mathlib.Core.Bool.{Bool, true, false, not, cond}
+use lib.ListN.{length, getD, take, drop, length-drop, drop-of-length-le}
+use lib.Seq.{drop-cons, take-all}
 use lib.Dec.{eqb, ltb}
 use native.Mathlib.Omega.{arith}
 use native.Mathlib.Numerals.{add-one}
-use borrow.Author.Tests.{eq-eqb, ne-eqb, lt-ltb, le-ltb}
-use Rattle.numbers.specs.Number.{negative, exponent, allZero, up}
+use borrow.Author.Tests.{eq-eqb, ne-eqb, lt-ltb, le-ltb, le-leb, lt-leb}
+use Rattle.figures.specs.Figures.{negative, exponent, carried, allZero, up}
 
 -- The bytes before i have no mark of an exponent.
 module _ (raw : List ℕ) (i : ℕ) (inv : exponent (drop i raw) ≡ exponent raw) where
@@ -80,3 +80,17 @@ up-one (b ∷ s) = go (ltb b 53)
     go : (t : Bool) → cond t 0 1 ≤ 1
     go true = omega arith
     go false = omega arith
+
+-- "at most 18 characters"
+module _ (raw : List ℕ) where
+  pub too-long : 18 < length raw → false ≡ carried raw
+  unfolding carried
+  too-long h = rw (lt-leb (length raw) 18 h)
+
+  pub short-enough : length raw ≤ 18 → not (exponent raw) ≡ carried raw
+  unfolding carried
+  short-enough h = rw (le-leb (length raw) 18 h)
+
+-- A part to the end is all from k on.
+pub rest : (k : ℕ) (l : List ℕ) → take (length l - k) (drop k l) ≡ drop k l
+rest k l = take-all (length l - k) (drop k l) (rw length-drop (omega arith))

@@ -1,13 +1,13 @@
--- `number::has_millionths` meets its contract: a fraction of at most six digits has none behind them.
+-- `figures::has_millionths` meets its contract: a fraction of at most six digits has none behind them.
 use mathlib.Core.Path.{ap, _∙_}
 use native.Mathlib.Omega.{arith}
 use borrow.Author.Needs.{needs}
 use denote.Ref.{now}
-use Rattle.numbers.specs.Number.{allZero}
-use Rattle.numbers.proofs.Bytes.{zero-none}
-use Rattle.numbers.proofs.Point.{rest}
-use Rattle.numbers.proofs.has_millionths.Statement.{statement}
-use Rattle.numbers.proofs.has_millionths.Tie as tie
+use Rattle.figures.specs.Figures.{allZero}
+use Rattle.figures.proofs.Bytes.{zero-none}
+use Rattle.figures.proofs.Bytes.{rest}
+use Rattle.figures.proofs.has_millionths.Statement.{statement}
+use Rattle.figures.proofs.has_millionths.Tie as tie
 
 returns : tie.Need-returns
 returns c = zero-none (now (c .before .before .args .fraction)) 6 (omega arith)

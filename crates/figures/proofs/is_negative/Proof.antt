@@ -1,9 +1,9 @@
--- `number::is_negative` meets its contract: the first byte tells.
+-- `figures::is_negative` meets its contract: the first byte tells.
 use borrow.Author.Needs.{needs}
 use denote.Ref.{now}
-use Rattle.numbers.proofs.Bytes.{negative-none, negative-first}
-use Rattle.numbers.proofs.is_negative.Statement.{statement}
-use Rattle.numbers.proofs.is_negative.Tie as tie
+use Rattle.figures.proofs.Bytes.{negative-none, negative-first}
+use Rattle.figures.proofs.is_negative.Statement.{statement}
+use Rattle.figures.proofs.is_negative.Tie as tie
 
 returns : tie.Need-returns
 returns c = negative-none (now (c .before .args .raw)) (c .if1 .taken)

@@ -1,13 +1,13 @@
--- `number::is_all_zero` meets its contract: what is left is all zero just if the whole is.
+-- `figures::is_all_zero` meets its contract: what is left is all zero just if the whole is.
 use Prim.Native.Nat.{_≤_, _-_}
 use mathlib.Core.Path.{_≡_, refl}
 use native.Mathlib.Omega.{arith}
 use borrow.Author.Needs.{needs}
 use lib.ListN.{length, drop}
-use Rattle.numbers.specs.Number.{allZero}
-use Rattle.numbers.proofs.Bytes.{zeros}
-use Rattle.numbers.proofs.is_all_zero.Statement.{statement}
-use Rattle.numbers.proofs.is_all_zero.Tie as tie
+use Rattle.figures.specs.Figures.{allZero}
+use Rattle.figures.proofs.Bytes.{zeros}
+use Rattle.figures.proofs.is_all_zero.Statement.{statement}
+use Rattle.figures.proofs.is_all_zero.Tie as tie
 
 abbrev Inv-loop : tie.InvT-loop
 Inv-loop raw i₀ i = (i ≤ length raw) × (allZero (drop i raw) ≡ allZero raw)
