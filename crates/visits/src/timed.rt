@@ -130,10 +130,11 @@ fn plain_timed(text: &[u8], at: usize, o: Opened, used: Used, words: &mut [u64])
     ensures { λ r. ⌜ ((ts : List ℕ) → VisitsBody (aTimed ts) (o .kind) TimedRows (now (text .entry)) at o used (now (words .entry)) r (now (words .exit))) ⌝ }
     ensures { λ r. ⌜ Kept 1 (now (words .entry)) used r (now (words .exit)) ⌝ }
 {
-    if o.kind == 1 {
-        return dosage_only(text, at, o, used, words);
+    let kind = o.kind;
+    match kind {
+        1 => dosage_only(text, at, o, used, words),
+        _ => applications(text, at, o, used, words),
     }
-    applications(text, at, o, used, words)
 }
 
 // A timed dosage under WeekDays or DaysOfMonth.
@@ -198,11 +199,11 @@ pub(crate) fn read_timed(
     if o.refused {
         return Visit::Refused(o.number, o.place);
     }
-    if o.kind <= 3 {
-        return plain_timed(text, at, o, used, words);
+    let kind = o.kind;
+    match kind {
+        4 => on_days(text, at, o, used, words),
+        5 => on_days(text, at, o, used, words),
+        6 => interval(text, at, o, used, words),
+        _ => plain_timed(text, at, o, used, words),
     }
-    if o.kind <= 5 {
-        return on_days(text, at, o, used, words);
-    }
-    interval(text, at, o, used, words)
 }

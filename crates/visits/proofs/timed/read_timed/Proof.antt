@@ -48,67 +48,86 @@ returns-2 c =
       kept-refused 1 (s .args .used) refl refl,
     )
 
+on-days-requires : tie.Need-on-days-requires
+on-days-requires c κs =
+    let s = c .before .before .before .before .before .before .before .before .before .before in
+    (s .pre .0, c .before .before .before .open-timed .ensures .1 .few (c .before .before .if1 .left), omega (arith, c .before .before .before .before .before .before .before .object-field .ensures .1 _ (c .before .before .before .before .before .f .given .1)), omega (arith, c .before .match2 .keys1), omega (arith, c .before .match2 .keys1))
+
+on-days-requires-2 : tie.Need-on-days-requires-2
+on-days-requires-2 c κs =
+    let s = c .before .before .before .before .before .before .before .before .before .before in
+    (s .pre .0, c .before .before .before .open-timed .ensures .1 .few (c .before .before .if1 .left), omega (arith, c .before .before .before .before .before .before .before .object-field .ensures .1 _ (c .before .before .before .before .before .f .given .1)), omega (arith, c .before .match2 .keys2), omega (arith, c .before .match2 .keys2))
+
+interval-requires : tie.Need-interval-requires
+interval-requires c κs =
+    let s = c .before .before .before .before .before .before .before .before .before .before in
+    (s .pre .0, c .before .before .before .open-timed .ensures .1 .few (c .before .before .if1 .left), omega (arith, c .before .before .before .before .before .before .before .object-field .ensures .1 _ (c .before .before .before .before .before .f .given .1)))
+
 plain-timed-requires : tie.Need-plain-timed-requires
 plain-timed-requires c κs =
-    let s = c .before .before .before .before .before .before .before .before .before .before .before in
-    let k = types-to-6 (s .args .parent) _ (c .before .before .before .before .open-timed .ensures .1 .kind (c .before .before .before .if1 .left)) in
-    (s .pre .0, c .before .before .before .before .open-timed .ensures .1 .few (c .before .before .before .if1 .left), omega (arith, c .before .before .before .before .before .before .before .before .object-field .ensures .1 _ (c .before .before .before .before .before .before .f .given .1)), k .0, c .before .if2 .taken)
+    let s = c .before .before .before .before .before .before .before .before .before .before in
+    let k = types-to-6 (s .args .parent) _ (c .before .before .before .open-timed .ensures .1 .kind (c .before .before .if1 .left)) in
+    let rest = c .before .match2 .rest in
+    (s .pre .0, c .before .before .before .open-timed .ensures .1 .few (c .before .before .if1 .left), omega (arith, c .before .before .before .before .before .before .before .object-field .ensures .1 _ (c .before .before .before .before .before .f .given .1)), k .0, omega (arith, k .1, rest .0 .0 .1, rest .0 .1, rest .1))
 
 same-length : tie.Need-same-length
 same-length c = search needs
 
 returns-3 : tie.Need-returns-3
 returns-3 c =
-    let s = c .before .before .before .before .before .before .before .before .before .before .before .before .before .before in (
+    let s = c .before .before .before .before .before .before .before .before .before .before .before .before .before in (
       λ room f slot fits.
-          let x = finds-child _ _ (c .before .before .before .before .before .before .before .before .before .before .before .object-field .ensures .0 (s .pre .1) f slot) (c .before .before .before .before .before .before .before .before .before .f .given .1) in
-          let o = c .before .before .before .before .before .before .before .open-timed .ensures .0 (x .place) (x .inner) (x .stands) in
-          visited-as (s .args .text .now) room (s .args .used) (s .args .words .now) TimedRows (c .before .before .plain-timed .result) (c .before .before .plain-timed .last .1 .1 .1 .1 .0)
-          (x .outcome (aTimed (typesUnder (s .args .parent))) (leftOf room (s .args .used)) ∙ under-as o _ (x .place) (leftOf room (s .args .used)) (c .before .before .before .before .before .before .if1 .left) refl (object-at (x .stands)))
-          (c .before .before .plain-timed .ensures .0 (typesUnder (s .args .parent)) room (x .place) (x .inner) (x .stands) (o .settled (c .before .before .before .before .before .before .if1 .left)) fits),
-      c .before .before .plain-timed .ensures .1,
+          let x = finds-child _ _ (c .before .before .before .before .before .before .before .before .before .before .object-field .ensures .0 (s .pre .1) f slot) (c .before .before .before .before .before .before .before .before .f .given .1) in
+          let o = c .before .before .before .before .before .before .open-timed .ensures .0 (x .place) (x .inner) (x .stands) in
+          visited-as (s .args .text .now) room (s .args .used) (s .args .words .now) TimedRows (c .before .before .on-days .result) (c .before .before .on-days .last .1 .1 .1 .1 .0)
+          (x .outcome (aTimed (typesUnder (s .args .parent))) (leftOf room (s .args .used)) ∙ under-as o _ (x .place) (leftOf room (s .args .used)) (c .before .before .before .before .before .if1 .left) refl (object-at (x .stands)))
+          (c .before .before .on-days .ensures .0 (typesUnder (s .args .parent)) room (x .place) (x .inner) (x .stands) (o .settled (c .before .before .before .before .before .if1 .left)) fits),
+      c .before .before .on-days .ensures .1,
     )
-
-on-days-requires : tie.Need-on-days-requires
-on-days-requires c κs =
-    let s = c .before .before .before .before .before .before .before .before .before .before .before .before .before in
-    (s .pre .0, c .before .before .before .before .before .before .open-timed .ensures .1 .few (c .before .before .before .before .before .if1 .left), omega (arith, c .before .before .before .before .before .before .before .before .before .before .object-field .ensures .1 _ (c .before .before .before .before .before .before .before .before .f .given .1)), c .before .before .before .if2 .left, c .before .if3 .taken)
 
 same-length-2 : tie.Need-same-length-2
 same-length-2 c = search needs
 
 returns-4 : tie.Need-returns-4
 returns-4 c =
-    let s = c .before .before .before .before .before .before .before .before .before .before .before .before .before .before .before .before in (
+    let s = c .before .before .before .before .before .before .before .before .before .before .before .before .before in (
       λ room f slot fits.
-          let x = finds-child _ _ (c .before .before .before .before .before .before .before .before .before .before .before .before .before .object-field .ensures .0 (s .pre .1) f slot) (c .before .before .before .before .before .before .before .before .before .before .before .f .given .1) in
-          let o = c .before .before .before .before .before .before .before .before .before .open-timed .ensures .0 (x .place) (x .inner) (x .stands) in
-          visited-as (s .args .text .now) room (s .args .used) (s .args .words .now) TimedRows (c .before .before .on-days .result) (c .before .before .on-days .last .1 .1 .1 .1 .0)
-          (x .outcome (aTimed (typesUnder (s .args .parent))) (leftOf room (s .args .used)) ∙ under-as o _ (x .place) (leftOf room (s .args .used)) (c .before .before .before .before .before .before .before .before .if1 .left) refl (object-at (x .stands)))
-          (c .before .before .on-days .ensures .0 (typesUnder (s .args .parent)) room (x .place) (x .inner) (x .stands) (o .settled (c .before .before .before .before .before .before .before .before .if1 .left)) fits),
-      c .before .before .on-days .ensures .1,
+          let x = finds-child _ _ (c .before .before .before .before .before .before .before .before .before .before .object-field .ensures .0 (s .pre .1) f slot) (c .before .before .before .before .before .before .before .before .f .given .1) in
+          let o = c .before .before .before .before .before .before .open-timed .ensures .0 (x .place) (x .inner) (x .stands) in
+          visited-as (s .args .text .now) room (s .args .used) (s .args .words .now) TimedRows (c .before .before .on-days2 .result) (c .before .before .on-days2 .last .1 .1 .1 .1 .0)
+          (x .outcome (aTimed (typesUnder (s .args .parent))) (leftOf room (s .args .used)) ∙ under-as o _ (x .place) (leftOf room (s .args .used)) (c .before .before .before .before .before .if1 .left) refl (object-at (x .stands)))
+          (c .before .before .on-days2 .ensures .0 (typesUnder (s .args .parent)) room (x .place) (x .inner) (x .stands) (o .settled (c .before .before .before .before .before .if1 .left)) fits),
+      c .before .before .on-days2 .ensures .1,
     )
-
-interval-requires : tie.Need-interval-requires
-interval-requires c κs =
-    let s = c .before .before .before .before .before .before .before .before .before .before .before .before .before in
-    (s .pre .0, c .before .before .before .before .before .before .open-timed .ensures .1 .few (c .before .before .before .before .before .if1 .left), omega (arith, c .before .before .before .before .before .before .before .before .before .before .object-field .ensures .1 _ (c .before .before .before .before .before .before .before .before .f .given .1)))
 
 same-length-3 : tie.Need-same-length-3
 same-length-3 c = search needs
 
 returns-5 : tie.Need-returns-5
 returns-5 c =
-    let s = c .before .before .before .before .before .before .before .before .before .before .before .before .before .before .before .before in
-    let most = types-to-6 (s .args .parent) _ (c .before .before .before .before .before .before .before .before .before .open-timed .ensures .1 .kind (c .before .before .before .before .before .before .before .before .if1 .left)) .1 in
-    let k : c .before .before .before .before .before .before .before .before .before .open-timed .result .kind ≡ 6 = omega (arith, most, c .before .before .before .before .if3 .left) in (
+    let s = c .before .before .before .before .before .before .before .before .before .before .before .before .before in (
       λ room f slot fits.
-          let x = finds-child _ _ (c .before .before .before .before .before .before .before .before .before .before .before .before .before .object-field .ensures .0 (s .pre .1) f slot) (c .before .before .before .before .before .before .before .before .before .before .before .f .given .1) in
-          let o = c .before .before .before .before .before .before .before .before .before .open-timed .ensures .0 (x .place) (x .inner) (x .stands) in
+          let x = finds-child _ _ (c .before .before .before .before .before .before .before .before .before .before .object-field .ensures .0 (s .pre .1) f slot) (c .before .before .before .before .before .before .before .before .f .given .1) in
+          let o = c .before .before .before .before .before .before .open-timed .ensures .0 (x .place) (x .inner) (x .stands) in
           visited-as (s .args .text .now) room (s .args .used) (s .args .words .now) TimedRows (c .before .before .interval .result) (c .before .before .interval .last .1 .1 .1 .1 .0)
-          (x .outcome (aTimed (typesUnder (s .args .parent))) (leftOf room (s .args .used)) ∙ under-as o _ (x .place) (leftOf room (s .args .used)) (c .before .before .before .before .before .before .before .before .if1 .left) k (object-at (x .stands)))
-          (c .before .before .interval .ensures .0 (typesUnder (s .args .parent)) room (x .place) (x .inner) (x .stands) (o .settled (c .before .before .before .before .before .before .before .before .if1 .left)) fits),
+          (x .outcome (aTimed (typesUnder (s .args .parent))) (leftOf room (s .args .used)) ∙ under-as o _ (x .place) (leftOf room (s .args .used)) (c .before .before .before .before .before .if1 .left) (c .before .before .before .before .match2 .keys3) (object-at (x .stands)))
+          (c .before .before .interval .ensures .0 (typesUnder (s .args .parent)) room (x .place) (x .inner) (x .stands) (o .settled (c .before .before .before .before .before .if1 .left)) fits),
       c .before .before .interval .ensures .1,
+    )
+
+same-length-4 : tie.Need-same-length-4
+same-length-4 c = search needs
+
+returns-6 : tie.Need-returns-6
+returns-6 c =
+    let s = c .before .before .before .before .before .before .before .before .before .before .before .before .before in (
+      λ room f slot fits.
+          let x = finds-child _ _ (c .before .before .before .before .before .before .before .before .before .before .object-field .ensures .0 (s .pre .1) f slot) (c .before .before .before .before .before .before .before .before .f .given .1) in
+          let o = c .before .before .before .before .before .before .open-timed .ensures .0 (x .place) (x .inner) (x .stands) in
+          visited-as (s .args .text .now) room (s .args .used) (s .args .words .now) TimedRows (c .before .before .plain-timed .result) (c .before .before .plain-timed .last .1 .1 .1 .1 .0)
+          (x .outcome (aTimed (typesUnder (s .args .parent))) (leftOf room (s .args .used)) ∙ under-as o _ (x .place) (leftOf room (s .args .used)) (c .before .before .before .before .before .if1 .left) refl (object-at (x .stands)))
+          (c .before .before .plain-timed .ensures .0 (typesUnder (s .args .parent)) room (x .place) (x .inner) (x .stands) (o .settled (c .before .before .before .before .before .if1 .left)) fits),
+      c .before .before .plain-timed .ensures .1,
     )
 
 pub read-timed-spec : {M : Type 1} → statement M
@@ -122,12 +141,15 @@ read-timed-spec =
     returns
     open-timed-requires
     returns-2
+    on-days-requires
+    on-days-requires-2
+    interval-requires
     plain-timed-requires
     same-length
     returns-3
-    on-days-requires
     same-length-2
     returns-4
-    interval-requires
     same-length-3
-    returns-5)
+    returns-5
+    same-length-4
+    returns-6)
