@@ -30,6 +30,11 @@ pub string-none : (c : InString) → stringStop c [] ≡ torn []
 unfolding stringStop
 string-none c = refl
 
+-- the closing quote
+pub quote-closes : (b : ℕ) → b ≡ 34 → after Plain b ≡ Closes
+unfolding after lead look
+quote-closes b e = rw e
+
 -- a byte that is plain ASCII is a character
 ascii-rows : (a b c d e f : Bool) (rest : Lead) → cond a false (cond b true (cond c false (cond d true (cond e false (cond f true false))))) ≡ true
     → cond a Control (cond b Ascii (cond c Quote (cond d Ascii (cond e Backslash (cond f Ascii rest))))) ≡ Ascii

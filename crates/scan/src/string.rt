@@ -228,6 +228,12 @@ pub fn string_end(text: &[u8], at: usize) -> Part
     ensures { λ r. ⌜ Stops (now (text .entry)) at (stringStop Plain (drop at (now (text .entry)))) r ⌝ }
 {
     let mut i = ascii_end(text, at);
+    // Most strings are plain ASCII up to their closing quote: the state is not needed.
+    if i < text.len() {
+        if text[i] == b'"' {
+            return Part::Past(i + 1);
+        }
+    }
     let mut state = InString::Plain;
     while i < text.len() {
         match char_after(state, text[i]) {

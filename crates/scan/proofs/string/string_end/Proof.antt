@@ -7,7 +7,7 @@ use lib.ListN.{length}
 use Rattle.json.specs.Part.{past, torn, stringStop}
 use Rattle.json.specs.declared.string.InString.the-variants.{Plain}
 use Rattle.json.proofs.Passes.{Passes, passes-none, passes-one, answers-here, answers-end, skipped}
-use Rattle.scan.proofs.Strings.{string-goes, string-closes, string-refuses, string-none}
+use Rattle.scan.proofs.Strings.{string-goes, string-closes, string-refuses, string-none, quote-closes}
 use Rattle.scan.proofs.string.string_end.Statement.{statement}
 use Rattle.scan.proofs.string.string_end.Tie as tie
 
@@ -20,8 +20,20 @@ abbrev μ-loop : tie.MeasureT-loop
 ascii-end-requires : tie.Need-ascii-end-requires Inv-loop μ-loop
 ascii-end-requires c κs = search needs
 
+shared-slice-read-if2 : tie.Need-shared-slice-read-if2 Inv-loop μ-loop
+shared-slice-read-if2 c = search needs
+
+add-t11 : tie.Need-add-t11 Inv-loop μ-loop
+add-t11 c = search needs
+
+returns : tie.Need-returns Inv-loop μ-loop
+returns c =
+    let i = c .before .before in
+    let p = passes-one (skipped (passes-none (stringStop Plain) _ _) (i .before .ascii-end .ensures)) (i .if1 .taken) {k = past} (string-closes Plain _ (quote-closes _ (c .if2 .taken))) in
+    (sym (p .same), p .ahead, omega arith)
+
 loop-holds : tie.Need-loop-holds Inv-loop μ-loop
-loop-holds c = skipped (passes-none (stringStop Plain) _ _) (c .ascii-end .ensures)
+loop-holds c = skipped (passes-none (stringStop Plain) _ _) (c .before .ascii-end .ensures)
 
 shared-slice-read-char-after : tie.Need-shared-slice-read-char-after Inv-loop μ-loop
 shared-slice-read-char-after c = search needs
@@ -49,11 +61,11 @@ loop-again c =
 enum-told : tie.Need-enum-told Inv-loop μ-loop
 enum-told c = search needs
 
-add-t12 : tie.Need-add-t12 Inv-loop μ-loop
-add-t12 c = search needs
+add-t18 : tie.Need-add-t18 Inv-loop μ-loop
+add-t18 c = search needs
 
-returns : tie.Need-returns Inv-loop μ-loop
-returns c =
+returns-2 : tie.Need-returns-2 Inv-loop μ-loop
+returns-2 c =
     let l = c .before .before .before .before in
     let p = passes-one (l .before .loop .inv) (l .loop-test .taken) {k = past} (string-closes _ _ (sym (c .before .before .char-after .ensures) ∙ c .enum-told .given .1)) in
     (sym (p .same), p .ahead, omega arith)
@@ -61,13 +73,13 @@ returns c =
 enum-told-2 : tie.Need-enum-told-2 Inv-loop μ-loop
 enum-told-2 c = search needs
 
-returns-2 : tie.Need-returns-2 Inv-loop μ-loop
-returns-2 c =
+returns-3 : tie.Need-returns-3 Inv-loop μ-loop
+returns-3 c =
     let l = c .before .before .before .before in
     (answers-here (l .before .loop .inv) (l .loop-test .taken) torn (string-refuses _ _ (sym (c .before .before .char-after .ensures) ∙ c .enum-told2 .given .1)), omega arith)
 
-returns-3 : tie.Need-returns-3 Inv-loop μ-loop
-returns-3 c = (answers-end (c .before .loop .inv) torn (c .loop-test .left) (string-none _), omega arith)
+returns-4 : tie.Need-returns-4 Inv-loop μ-loop
+returns-4 c = (answers-end (c .before .loop .inv) torn (c .loop-test .left) (string-none _), omega arith)
 
 pub string-end-spec : {M : Type 1} → statement M
 string-end-spec =
@@ -76,6 +88,9 @@ string-end-spec =
     Inv-loop
     μ-loop
     ascii-end-requires
+    shared-slice-read-if2
+    add-t11
+    returns
     loop-holds
     shared-slice-read-char-after
     char-after-requires
@@ -85,8 +100,8 @@ string-end-spec =
     loop-less
     loop-again
     enum-told
-    add-t12
-    returns
-    enum-told-2
+    add-t18
     returns-2
-    returns-3)
+    enum-told-2
+    returns-3
+    returns-4)
