@@ -9,6 +9,7 @@ use native.Mathlib.Numerals.{add-one}
 use native.Mathlib.Omega.{arith}
 use borrow.Author.Tests.{not-true, not-false}
 use Rattle.json.specs.String.{chars, after, given, gather}
+use Rattle.scan.proofs.Strings.{quote-closes}
 use Rattle.moving.specs.Read.{decoded}
 use Rattle.characters.specs.Characters.{bytesOf, plainFrom, left, ahead, Steps, GivesBytes, Sound, Gives}
 use Rattle.characters.specs.declared.Out.{Out}
@@ -88,6 +89,10 @@ module _ (text : List ℕ) (s : InString) (v i : ℕ) where
   pub rest-ends : length text ≤ i → rest text s v i ≡ []
   unfolding chars
   rest-ends h = ap from (drop-of-length-le text h)
+
+-- ---- at the closing quote
+pub plain-ends : (text : List ℕ) (i : ℕ) → i < length text → getD text i 0 ≡ 34 → plainFrom text i ≡ []
+plain-ends text i h e = rest-closes text Plain 0 i h (quote-closes _ e)
 
 -- ---- behind the opening quote
 module _ (text : List ℕ) (q : ℕ) where

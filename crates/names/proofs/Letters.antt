@@ -6,13 +6,10 @@ use mathlib.Core.Bool.{false, not}
 use lib.ListN.{length, getD, length-append}
 use native.Mathlib.Omega.{arith}
 use borrow.Author.Tests.{not-false}
-use Rattle.json.specs.Rows.{look}
-use Rattle.json.specs.String.{isAscii, lead, after}
-use Rattle.json.specs.declared.string.InString.the-variants.{Plain}
+use Rattle.json.specs.String.{isAscii}
 use Rattle.scan.proofs.Strings.{ascii-lead}
 use Rattle.characters.specs.Characters.{plainFrom, ahead, Sound}
 use Rattle.characters.specs.declared.Cursor.{Cursor}
-use Rattle.characters.proofs.Ahead.{rest-closes}
 use Rattle.characters.proofs.Ascii.{ascii-from}
 use Rattle.names.specs.Names.{Packs}
 use Rattle.names.specs.declared.Packed.{Packed}
@@ -51,10 +48,5 @@ pub record Decodes (text bytes : List ℕ) (p : Packed) (n : ℕ) (c : Cursor) :
   pub letters : Letters bytes p n (ahead text c)
 
 -- ---- plain ASCII letters
-module _ (text : List ℕ) (i : ℕ) (h : i < length text) where
-  pub plain-on : not (isAscii (getD text i 0)) ≡ false → plainFrom text i ≡ getD text i 0 ∷ plainFrom text (i + 1)
-  plain-on e = ascii-from text i h (ascii-lead _ (not-false _ e))
-
-  pub plain-ends : getD text i 0 ≡ 34 → plainFrom text i ≡ []
-  unfolding after lead look
-  plain-ends e = rest-closes text Plain 0 i h (rw e)
+pub plain-on : (text : List ℕ) (i : ℕ) → i < length text → not (isAscii (getD text i 0)) ≡ false → plainFrom text i ≡ getD text i 0 ∷ plainFrom text (i + 1)
+plain-on text i h e = ascii-from text i h (ascii-lead _ (not-false _ e))

@@ -2,6 +2,8 @@
 use json::string::Lead;
 use scan::string;
 ghost use mathlib.Core.Path.{_≡_};
+ghost use mathlib.Core.Bool.{true};
+ghost use mathlib.Core.List.{[]};
 ghost use Prim.Native.Nat.{_+_, _-_, _≤_};
 ghost use lib.ListN.{length, drop};
 ghost use lib.Seq.{sets, slice};
@@ -25,10 +27,23 @@ fn ascii_end(text: &[u8], at: usize) -> usize
     i
 }
 
+// Whether the closing quote stands at `at`, as it does behind the plain ASCII characters of most strings.
+fn closes_at(text: &[u8], at: usize) -> bool
+    ensures { λ r. ⌜ (r ≡ true → plainFrom (now (text .entry)) at ≡ []) ⌝ }
+{
+    if at < text.len() {
+        return text[at] == b'"';
+    }
+    false
+}
+
 // The number of decoded bytes from a place on where a character or the closing quote may stand.
 fn rest_length(text: &[u8], from: usize) -> usize
     ensures { λ r. ⌜ r ≡ length (plainFrom (now (text .entry)) from) ⌝ }
 {
+    if closes_at(text, from) {
+        return 0;
+    }
     let mut s = characters::spot_at(from);
     let mut n: usize = 0;
     loop {
@@ -76,6 +91,9 @@ fn copy_rest(text: &[u8], from: usize, buffer: &mut [u8], to: usize) -> usize
     ensures { λ r. ⌜ r ≡ to + length (plainFrom (now (text .entry)) from) ⌝ }
     ensures { λ _. ⌜ now (buffer .exit) ≡ sets (now (buffer .entry)) to (plainFrom (now (text .entry)) from) ⌝ }
 {
+    if closes_at(text, from) {
+        return to;
+    }
     let mut s = characters::spot_at(from);
     let mut k = to;
     loop {

@@ -7,9 +7,9 @@ use native.Mathlib.Omega.{arith}
 use borrow.Author.Needs.{needs}
 use Rattle.moving.specs.Read.{decoded}
 use Rattle.characters.specs.Characters.{plainFrom}
-use Rattle.characters.proofs.Ahead.{behind-inside}
+use Rattle.characters.proofs.Ahead.{behind-inside, plain-ends}
 use Rattle.names.specs.Names.{hashFrom}
-use Rattle.names.proofs.Letters.{plain-ends, plain-on}
+use Rattle.names.proofs.Letters.{plain-on}
 use Rattle.names.proofs.Hashing.{hash-ends, hash-on, slot-is}
 use Rattle.names.proofs.first_slot.Statement.{statement}
 use Rattle.names.proofs.first_slot.Tie as tie

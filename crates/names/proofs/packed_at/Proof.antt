@@ -7,8 +7,8 @@ use native.Mathlib.Omega.{arith}
 use borrow.Author.Needs.{needs}
 use Rattle.moving.specs.Read.{decoded}
 use Rattle.characters.specs.Characters.{plainFrom}
-use Rattle.characters.proofs.Ahead.{behind-inside}
-use Rattle.names.proofs.Letters.{Letters, letters-none, letters-end, letters-on, plain-ends, plain-on}
+use Rattle.characters.proofs.Ahead.{behind-inside, plain-ends}
+use Rattle.names.proofs.Letters.{Letters, letters-none, letters-end, letters-on, plain-on}
 use Rattle.names.proofs.packed_at.Statement.{statement}
 use Rattle.names.proofs.packed_at.Tie as tie
 
