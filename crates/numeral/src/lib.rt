@@ -4,8 +4,8 @@ use json::number::InNumber;
 use json::part::Part;
 ghost use mathlib.Core.Path.{_≡_};
 ghost use mathlib.Core.Bool.{true};
-ghost use Prim.Native.Nat.{suc};
-ghost use lib.ListN.{drop};
+ghost use Prim.Native.Nat.{suc, _<_};
+ghost use lib.ListN.{length, getD, drop};
 ghost use Rattle.json.specs.Number.{firstDigit, digitTo, marks, onward, mayEnd, takesDigits};
 ghost use Rattle.json.specs.Rows.{look};
 ghost use Rattle.json.specs.Part.{numberStop, Skips, Stops};
@@ -206,12 +206,47 @@ fn digits_skipped(text: &[u8], part: InNumber, at: usize) -> usize
     at
 }
 
+// Whether a digit from 1 to 9 stands at `at`, with which a whole number begins.
+fn begins_whole(text: &[u8], at: usize) -> bool
+    ensures { λ r. ⌜ (r ≡ true → (at < length (now (text .entry))) × (onward InNumber.Start (getD (now (text .entry)) at 0) ≡ DigitStep.Onward InNumber.Whole)) ⌝ }
+{
+    if text.len() <= at {
+        return false;
+    }
+    let b = text[at];
+    if b < b'1' {
+        return false;
+    }
+    b <= b'9'
+}
+
+// Whether a comma, } or ] stands at `at`, as behind most numbers.
+fn ends_whole(text: &[u8], at: usize) -> bool
+    ensures { λ r. ⌜ (r ≡ true → (at < length (now (text .entry))) × (onward InNumber.Whole (getD (now (text .entry)) at 0) ≡ DigitStep.Over)) ⌝ }
+{
+    if text.len() <= at {
+        return false;
+    }
+    match text[at] {
+        b',' | b']' | b'}' => true,
+        _ => false,
+    }
+}
+
 // The place behind the number at `at`.
 pub fn number_end(text: &[u8], at: usize) -> Part
     ensures { λ r. ⌜ Stops (now (text .entry)) (suc at) (numberStop Start (drop at (now (text .entry)))) r ⌝ }
 {
     let mut i = at;
     let mut part = InNumber::Start;
+    // Most numbers are whole: their digits are skipped at once, and what stands behind them ends them.
+    if begins_whole(text, at) {
+        part = InNumber::Whole;
+        i = digits_end(text, at + 1);
+        if ends_whole(text, i) {
+            return Part::Past(i);
+        }
+    }
     while i < text.len() {
         match digit_after(part, text[i]) {
             DigitStep::Onward(next) => {
