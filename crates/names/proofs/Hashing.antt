@@ -9,10 +9,13 @@ use native.Mathlib.Numerals.{add-one}
 use native.Mathlib.Omega.{arith}
 use Rattle.characters.specs.Characters.{ahead, Sound}
 use Rattle.characters.specs.declared.Cursor.{Cursor}
-use Rattle.names.specs.Names.{hashOn, hashFrom, firstSlot}
+use Rattle.names.specs.Names.{hashOn, hashFrom, hashOf, seedOf, firstSlot}
 
 pub product-fits : {x y : ℕ} → x ≤ 0x1000000FF → y ≤ 0xBFFFFFFF → x * y < 2 ^ 64
 product-fits a b = omega (arith, mul-le-mul a b)
+
+pub sum-fits : {x y z : ℕ} → x ≤ 0xFFFFFFFF → y ≤ 0xFFFFFFFF → z ≤ 0xFFFFFFFF → x + y + z < 2 ^ 64
+sum-fits a b c = omega arith
 
 module _ (seed h : ℕ) {rest : List ℕ} where
   pub hash-ends : rest ≡ [] → hashFrom seed h rest ≡ h
@@ -38,6 +41,11 @@ module _ (seed h : ℕ) (text : List ℕ) (n i : ℕ) where
 
   pub hash-most : n ≤ i → hashFrom seed h (drop i (take n text)) ≡ h
   hash-most l = over (simp length-take (omega arith))
+
+-- A text hashed by what hashing it came to.
+pub seeded : (text : List ℕ) {s r : ℕ} → s ≡ hashOf 0x9E3779B97F4A7C15 text → r ≡ hashOf s text → r ≡ seedOf text
+unfolding seedOf
+seeded text e f = f ∙ ap (λ x. hashOf x text) e
 
 -- The bytes that are ahead of a cursor are to be hashed yet.
 pub record Hashes (seed : ℕ) (text bytes : List ℕ) (h : ℕ) (c : Cursor) : Type 0 where

@@ -90,20 +90,25 @@ pub record Once (text : List ℕ) (es : List (Entry Value)) (members : ℕ) (slo
   pub count : members ≡ length es
   pub size : length slots ≡ 33
 
--- A hash, byte by byte.
-abbrev factor : ℕ → ℕ → ℕ
-factor seed h = 0x80000000 + (seed % 0x100000000 + h % 0x10000 * 0x4000) % 0x40000000
+-- A hash of two halves, byte by byte.
+abbrev low : ℕ → ℕ → ℕ → ℕ
+low seed h b = (h % 0x100000000 + b + 1) * (0x80000000 + (seed % 0x100000000 + h / 0x100000000) % 0x40000000) / 0x10000 % 0x100000000
 
 unfoldable pub hashOn : ℕ → ℕ → ℕ → ℕ
-hashOn seed h b = (h % 0x100000000 + b + 1) * factor seed h / 0x10000 % 0x100000000
+hashOn seed h b = (h / 0x100000000 + low seed h b + seed / 0x100000000) % 0x100000000 * 0x100000000 + low seed h b
 
 unfoldable pub hashFrom : ℕ → ℕ → List ℕ → ℕ
 hashFrom seed h [] = h
 hashFrom seed h (b ∷ s) = hashFrom seed (hashOn seed h b) s
 
--- A text's own seed, and the slot at which the search for a name starts.
+-- A text's hash, its own seed, and the slot at which the search for a name starts.
+unfoldable pub hashOf : ℕ → List ℕ → ℕ
+unfolding hashFrom
+hashOf seed text = hashFrom seed 0 (take 65535 text)
+
 unfoldable pub seedOf : List ℕ → ℕ
-seedOf text = hashFrom 0x1E3779B1 0 (take 65535 text)
+unfolding hashOf
+seedOf text = hashOf (hashOf 0x9E3779B97F4A7C15 text) text
 
 unfoldable pub firstSlot : ℕ → List ℕ → ℕ
 firstSlot seed n = hashFrom seed 0 n % 8053

@@ -12,7 +12,7 @@ ghost use Prim.Native.Nat.{ℕ, _-_, _%_};
 ghost use Rattle.document.specs.Lookup.{has, unknown};
 ghost use Rattle.document.specs.Visit.{entriesOf};
 ghost use Rattle.document.specs.At.{At};
-ghost use Rattle.names.specs.Names.{indexOf, shortIndex, Packs, namesFrom, membersIn, Settles, Once, rowNames, isIn, isRow, standingOf, Tells, hashOn, seedOf, firstSlot, Sought, stoodIn, seenOnce, seenAgain};
+ghost use Rattle.names.specs.Names.{indexOf, shortIndex, Packs, namesFrom, membersIn, Settles, Once, rowNames, isIn, isRow, standingOf, Tells, hashOn, hashOf, seedOf, firstSlot, Sought, stoodIn, seenOnce, seenAgain};
 
 pub const T: usize = 0;
 
@@ -248,21 +248,20 @@ const TABLE: usize = 8192;
 // A place from here on has no room in a slot. Document 01's texts are at most half as long, though the run that one begins may be longer.
 const PLACES: usize = 65535;
 
-// One byte more in a hash: the middle of a product, so that names which differ in a digit or two do not start side by side.
+// One byte more in a hash of two halves: the low one is the middle of a product, so that names which differ in a digit or two do not start side by side.
 // The factor depends on the seed and on what came before: were it one for all, names that meet under one seed would often meet under another.
 fn hash_on(seed: u64, h: u64, b: u8) -> u64
     ensures { λ r. ⌜ r ≡ hashOn seed h b ⌝ }
 {
-    let factor = 0x80000000 + (seed % 0x100000000 + h % 0x10000 * 0x4000) % 0x40000000;
-    (h % 0x100000000 + wide(b) + 1) * factor / 0x10000 % 0x100000000
+    let high = h / 0x100000000;
+    let factor = 0x80000000 + (seed % 0x100000000 + high) % 0x40000000;
+    let low = (h % 0x100000000 + wide(b) + 1) * factor / 0x10000 % 0x100000000;
+    (high + low + seed / 0x100000000) % 0x100000000 * 0x100000000 + low
 }
 
-// The seed of the texts' own seeds: any number whose bits are mixed would do, as these of the golden ratio.
-const GOLDEN: u64 = 0x1E3779B1;
-
-// A text's own seed, so that names which meet in one slot have to be found anew for every text. What lies behind the table's places is left out.
-fn seed_of(text: &[u8]) -> u64
-    ensures { λ r. ⌜ r ≡ seedOf (now (text .entry)) ⌝ }
+// A text's hash. What lies behind the table's places is left out.
+fn hash_of(text: &[u8], seed: u64) -> u64
+    ensures { λ r. ⌜ r ≡ hashOf seed (now (text .entry)) ⌝ }
 {
     let mut h: u64 = 0;
     let mut i: usize = 0;
@@ -270,10 +269,21 @@ fn seed_of(text: &[u8]) -> u64
         if PLACES <= i {
             return h;
         }
-        h = hash_on(GOLDEN, h, text[i]);
+        h = hash_on(seed, h, text[i]);
         i += 1;
     }
     h
+}
+
+// The seed of the texts' own seeds: any number whose bits are mixed would do, as these of the golden ratio.
+const GOLDEN: u64 = 0x9E3779B97F4A7C15;
+
+// A text's own seed, so that names which meet in one slot have to be found anew for every text. It goes over the text twice, the second time
+// by what the first came to: else a text could be given the seed that its names were found for, from both its ends at once.
+fn seed_of(text: &[u8]) -> u64
+    ensures { λ r. ⌜ r ≡ seedOf (now (text .entry)) ⌝ }
+{
+    hash_of(text, hash_of(text, GOLDEN))
 }
 
 // Where the search for a name of this hash starts. The last slots are no start, so that few searches reach the end.
