@@ -33,8 +33,8 @@ returns c p ms a =
     let e = c .before .before in
     rw (c .once .ensures) (settled-end (e .before .before .loop .inv p ms a) (sym (e .at-end .ensures) ∙ c .before .if1 .taken))
 
-name-index-requires : tie.Need-name-index-requires Inv-loop μ-loop
-name-index-requires c κs = search needs
+named-requires : tie.Need-named-requires Inv-loop μ-loop
+named-requires c κs = search needs
 
 settle-many-requires : tie.Need-settle-many-requires Inv-loop μ-loop
 settle-many-requires c κs = search needs
@@ -58,10 +58,7 @@ returns-3 c p ms a =
     let t = n .before in
     let s = t .before .before .before .loop .inv p ms a in
     rw (c .again .ensures)
-    (settled-twice s (sym (t .before .at-end .ensures) ∙ t .if1 .left) (stood s _ (u .if2 .left) (n .name-index .ensures) (c .before .if3 .taken)))
-
-value-of-requires : tie.Need-value-of-requires Inv-loop μ-loop
-value-of-requires c κs = search needs
+    (settled-twice s (sym (t .before .at-end .ensures) ∙ t .if1 .left) (stood s _ (u .if2 .left) (n .named .ensures .0) (c .before .if3 .taken)))
 
 mul-slots : tie.Need-mul-slots Inv-loop μ-loop
 mul-slots c = search needs
@@ -80,15 +77,14 @@ loop-less c = search needs
 
 loop-again : tie.Need-loop-again Inv-loop μ-loop
 loop-again c p ms a =
-    let v = c .before in
-    let u = v .before .before in
+    let u = c .before .before in
     let n = u .before in
     let t = n .before in
     let l = t .before .before in
     let s = l .before .loop .inv p ms a in
-    let known = n .name-index .ensures in
-    settling-on s (sym (t .before .at-end .ensures) ∙ t .if1 .left) (not-stood s _ (u .if2 .left) known (v .before .if3 .left))
-    (l .loop-test .taken) _ known _ (v .value-of .ensures) _ (c .next-after .ensures) _
+    let known = n .named .ensures .0 in
+    settling-on s (sym (t .before .at-end .ensures) ∙ t .if1 .left) (not-stood s _ (u .if2 .left) known (c .before .if3 .left))
+    (l .loop-test .taken) _ known _ (n .named .ensures .1) _ (c .next-after .ensures) _
     (noted-known _ _ _ (s .size) (u .if2 .left) _ refl)
 
 settle-many-requires-2 : tie.Need-settle-many-requires-2 Inv-loop μ-loop
@@ -108,14 +104,13 @@ settle-spec =
     at-end-requires
     once-requires
     returns
-    name-index-requires
+    named-requires
     settle-many-requires
     returns-2
     mul-if3
     array-read-if3
     again-requires
     returns-3
-    value-of-requires
     mul-slots
     array-write-slots
     next-after-requires
