@@ -447,23 +447,27 @@ fn settle_many(text: &[u8], at: usize) -> Seen
 pub fn settle(text: &[u8], at: usize) -> Seen
     ensures { λ r. ⌜ Settles (now (text .entry)) at r ⌝ }
 {
-    let mut slots = [0usize; NAMES];
+    // filled where it stands, since its slots are long to copy
+    let mut seen = once(0, [0usize; NAMES]);
     let mut members: usize = 0;
     let mut q = moving::first_in(text, at);
     while members < text.len() {
         if moving::at_end(text, q) {
-            return once(members, slots);
+            seen.members = members;
+            return seen;
         }
         let m = named(text, q);
         let k = m.index;
         if NAMES <= k {
             return settle_many(text, at);
         }
-        if slots[k] != 0 {
-            return again(q, members, slots);
+        if seen.slots[k] != 0 {
+            seen.twice = true;
+            seen.place = q;
+            return seen;
         }
         let v = m.value;
-        slots[k] = v;
+        seen.slots[k] = v;
         q = moving::next_after(text, v);
         members += 1;
     }
