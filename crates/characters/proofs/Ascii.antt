@@ -18,7 +18,7 @@ module _ (b : ℕ) (e : lead b ≡ Ascii) where
   unfolding after
   ascii-goes = rw e
 
-  no-backslash : b ≡ 92 → ⊥
+  pub no-backslash : b ≡ 92 → ⊥
   unfolding lead look
   no-backslash h = let z : lead 92 ≡ Ascii = rw h at e in let n : _≡_ {A = ℕ} 0 1 = cc in omega arith
 

@@ -1,4 +1,4 @@
 -- What the proofs of several functions use.
 mod FirstByte
-mod Skips
+pub mod Skips
 mod Counts

@@ -92,10 +92,15 @@ unfoldable pub nextAfter : Place → Place
 unfolding behindValue blanked overComma
 nextAfter s = overComma (blanked (behindValue s))
 
+-- The value behind the colon, from a place behind the member's name.
+abbrev pub behindColon : Place → Place
+unfolding blanked
+behindColon s = blanked (tail (blanked s))
+
 -- The value of the member whose name's quote stands here: behind the name and the colon.
 unfoldable pub valueOf : Place → Place
 unfolding behindString blanked
-valueOf s = blanked (tail (blanked (behindString (tail s))))
+valueOf s = behindColon (behindString (tail s))
 
 -- No element and no member begins here.
 unfoldable pub atEnd : Place → Bool

@@ -5,7 +5,7 @@ ghost use mathlib.Core.List.{tail};
 ghost use lib.ListN.{drop};
 ghost use Rattle.json.specs.Byte.{isNumeric};
 ghost use Rattle.json.specs.Tree.{Moves};
-ghost use Rattle.moving.specs.Moving.{firstByte, kindOf, behindString, opens as opensHere, closes as closesHere, behindBracket, behindNumber, behindValue, firstIn, overComma, nextAfter, valueOf, atEnd};
+ghost use Rattle.moving.specs.Moving.{firstByte, kindOf, behindString, opens as opensHere, closes as closesHere, behindBracket, behindNumber, behindValue, firstIn, overComma, nextAfter, behindColon, valueOf, atEnd};
 ghost use Rattle.moving.specs.Count.{count as countOf, elementsIn};
 
 // What a value is.
@@ -186,12 +186,19 @@ pub fn next_after(text: &[u8], at: usize) -> usize
     over_comma(text, byte::blanks_end(text, behind_value(text, at)))
 }
 
+// The value behind the colon, from a place behind the member's name.
+pub fn behind_colon(text: &[u8], at: usize) -> usize
+    ensures { λ r. ⌜ Moves behindColon (now (text .entry)) at r ⌝ }
+{
+    let colon = byte::blanks_end(text, at);
+    byte::blanks_end(text, behind_byte(text, colon))
+}
+
 // The value of the member whose name's quote stands at `at`.
 pub fn value_of(text: &[u8], at: usize) -> usize
     ensures { λ r. ⌜ Moves valueOf (now (text .entry)) at r ⌝ }
 {
-    let colon = byte::blanks_end(text, behind_string(text, behind_byte(text, at)));
-    byte::blanks_end(text, behind_byte(text, colon))
+    behind_colon(text, behind_string(text, behind_byte(text, at)))
 }
 
 // Whether no element and no member begins at `at`.

@@ -1,4 +1,4 @@
--- The letters of a name, packed one after the other.
+-- The letters of a name, packed one after the other, and the way over them to the member's value.
 use Prim.Native.Nat.{ℕ, _+_, _<_}
 use mathlib.Core.Path.{_≡_, refl, sym, ap, subst, _∙_}
 use mathlib.Core.List.{List, [], _∷_, _++_, append-assoc, append-nil}
@@ -6,11 +6,15 @@ use mathlib.Core.Bool.{false, not}
 use lib.ListN.{length, getD, length-append}
 use native.Mathlib.Omega.{arith}
 use borrow.Author.Tests.{not-false}
+use Rattle.json.specs.Tree.{Moves}
 use Rattle.json.specs.String.{isAscii}
+use Rattle.json.proofs.Moves.{Leads, lead-start, lead-one, lead-past, moved}
 use Rattle.scan.proofs.Strings.{ascii-lead}
+use Rattle.moving.specs.Moving.{behindString, behindColon, valueOf}
+use Rattle.moving.proofs.Skips.{string-closes, string-goes}
 use Rattle.characters.specs.Characters.{plainFrom, ahead, Sound}
 use Rattle.characters.specs.declared.Cursor.{Cursor}
-use Rattle.characters.proofs.Ascii.{ascii-from}
+use Rattle.characters.proofs.Ascii.{no-backslash, ascii-from}
 use Rattle.names.specs.Names.{Packs}
 use Rattle.names.specs.declared.Packed.{Packed}
 
@@ -50,3 +54,18 @@ pub record Decodes (text bytes : List ℕ) (p : Packed) (n : ℕ) (c : Cursor) :
 -- ---- plain ASCII letters
 pub plain-on : (text : List ℕ) (i : ℕ) → i < length text → not (isAscii (getD text i 0)) ≡ false → plainFrom text i ≡ getD text i 0 ∷ plainFrom text (i + 1)
 plain-on text i h e = ascii-from text i h (ascii-lead _ (not-false _ e))
+
+-- ---- over them to the member's value: it stands behind the colon, behind the name that goes on at i
+abbrev pub ToValue : List ℕ → ℕ → ℕ → Type 0
+ToValue text quote i = Leads valueOf (λ s. behindColon (behindString s)) text quote i
+
+pub value-start : (text : List ℕ) (quote : ℕ) → quote < length text → ToValue text quote (quote + 1)
+unfolding valueOf
+value-start text quote h = lead-one (lead-start valueOf text quote) h (λ s. refl)
+
+module _ {text : List ℕ} {quote i : ℕ} (l : ToValue text quote i) (h : i < length text) where
+  pub value-on : (getD text i 0 ≡ 34 → ⊥) → not (isAscii (getD text i 0)) ≡ false → ToValue text quote (i + 1)
+  value-on q e = lead-one l h (λ s. ap behindColon (string-goes _ q (no-backslash _ (ascii-lead _ (not-false _ e))) s))
+
+  pub value-behind : getD text i 0 ≡ 34 → {r : ℕ} → Moves behindColon text (i + 1) r → Moves valueOf text quote r
+  value-behind e m = moved (lead-past (λ s. s) behindColon (lead-one l h (λ s. ap behindColon (string-closes _ e s))) m)

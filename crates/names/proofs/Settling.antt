@@ -123,7 +123,7 @@ module _ {text : List ℕ} {at : ℕ} {ms : Members} {slots : List ℕ} {m q : �
     one = rest-one (s .rest) stays
 
     -- it did
-    pub settled-twice : has (decoded (drop q text)) (s .seen) ≡ true → Settled text (entriesOf ms) (seenAgain q m slots)
+    pub settled-twice : has (decoded (drop q text)) (s .seen) ≡ true → {n : ℕ} → Settled text (entriesOf ms) (seenAgain q n slots)
     unfolding entriesOf
     settled-twice twice =
         record {

@@ -4,9 +4,9 @@ use scan::string as spelled;
 ghost use mathlib.Core.Path.{_≡_};
 ghost use mathlib.Core.Bool.{true};
 ghost use lib.ListN.{length, drop};
-ghost use Rattle.moving.specs.Moving.{firstIn};
+ghost use Rattle.moving.specs.Moving.{firstIn, valueOf};
 ghost use Rattle.moving.specs.Read.{decoded};
-ghost use Rattle.json.specs.Tree.{Place, Members, object};
+ghost use Rattle.json.specs.Tree.{Place, Members, object, Moves};
 ghost use mathlib.Core.List.{List, [], _∷_, _++_};
 ghost use Prim.Native.Nat.{ℕ, _-_, _%_};
 ghost use Rattle.document.specs.Lookup.{has, unknown};
@@ -87,31 +87,6 @@ pub const NAMES: usize = 33;
 pub struct Packed {
     pub head: u64,
     pub tail: u64,
-}
-
-// The letters of a name as they are spelled, where they are plain ASCII; else as they are decoded.
-fn packed_at(text: &[u8], quote: usize) -> Packed
-    ensures { λ r. ⌜ Packs (decoded (drop quote (now (text .entry)))) r ⌝ }
-{
-    if text.len() <= quote {
-        return packed_decoded(text, quote);
-    }
-    let mut p = no_letter();
-    let mut n: usize = 0;
-    let mut i = quote + 1;
-    while i < text.len() {
-        let b = text[i];
-        if b == b'"' {
-            return p;
-        }
-        if !spelled::is_ascii(b) {
-            return packed_decoded(text, quote);
-        }
-        p = with_letter(p, n, b);
-        n += 1;
-        i += 1;
-    }
-    packed_decoded(text, quote)
 }
 
 fn no_letter() -> Packed
@@ -200,11 +175,10 @@ fn short_index(head: u64) -> usize
     }
 }
 
-// The number of the name whose quote stands at `quote`, or NAMES.
-pub(crate) fn name_index(text: &[u8], quote: usize) -> usize
-    ensures { λ r. ⌜ r ≡ indexOf (decoded (drop quote (now (text .entry)))) ⌝ }
+// The number of a name, or NAMES.
+fn index_of(p: Packed) -> usize
+    ensures { λ r. ⌜ ((name : List ℕ) → Packs name p → r ≡ indexOf name) ⌝ }
 {
-    let p = packed_at(text, quote);
     if p.tail == 1 {
         return short_index(p.head);
     }
@@ -215,6 +189,49 @@ pub(crate) fn name_index(text: &[u8], quote: usize) -> usize
         }
     }
     NAMES
+}
+
+// A member: the number of its name, or NAMES, and where its value stands.
+struct Member {
+    index: usize,
+    value: usize,
+}
+
+fn named_decoded(text: &[u8], quote: usize) -> Member
+    ensures { λ r. ⌜ (r .index ≡ indexOf (decoded (drop quote (now (text .entry))))) × Moves valueOf (now (text .entry)) quote (r .value) ⌝ }
+{
+    Member {
+        index: index_of(packed_decoded(text, quote)),
+        value: moving::value_of(text, quote),
+    }
+}
+
+// The member whose name's quote stands at `quote`. Where the letters are plain ASCII, as most often, they are gone over once.
+fn named(text: &[u8], quote: usize) -> Member
+    ensures { λ r. ⌜ (r .index ≡ indexOf (decoded (drop quote (now (text .entry))))) × Moves valueOf (now (text .entry)) quote (r .value) ⌝ }
+{
+    if text.len() <= quote {
+        return named_decoded(text, quote);
+    }
+    let mut p = no_letter();
+    let mut n: usize = 0;
+    let mut i = quote + 1;
+    while i < text.len() {
+        let b = text[i];
+        if b == b'"' {
+            return Member {
+                index: index_of(p),
+                value: moving::behind_colon(text, i + 1),
+            };
+        }
+        if !spelled::is_ascii(b) {
+            return named_decoded(text, quote);
+        }
+        p = with_letter(p, n, b);
+        n += 1;
+        i += 1;
+    }
+    named_decoded(text, quote)
 }
 
 // Where the value of each name stands in an object, 0 where there is none, and how many members it has;
@@ -423,8 +440,9 @@ fn settle_many(text: &[u8], at: usize) -> Seen
         if i < TABLE {
             table[i] = (q % PLACES) as u16 + 1;
         }
-        let k = name_index(text, q);
-        let v = moving::value_of(text, q);
+        let m = named(text, q);
+        let k = m.index;
+        let v = m.value;
         if k < NAMES {
             slots[k] = v;
         }
@@ -439,22 +457,27 @@ fn settle_many(text: &[u8], at: usize) -> Seen
 pub fn settle(text: &[u8], at: usize) -> Seen
     ensures { λ r. ⌜ Settles (now (text .entry)) at r ⌝ }
 {
-    let mut slots = [0usize; NAMES];
+    // filled where it stands, since its slots are long to copy
+    let mut seen = once(0, [0usize; NAMES]);
     let mut members: usize = 0;
     let mut q = moving::first_in(text, at);
     while members < text.len() {
         if moving::at_end(text, q) {
-            return once(members, slots);
+            seen.members = members;
+            return seen;
         }
-        let k = name_index(text, q);
+        let m = named(text, q);
+        let k = m.index;
         if NAMES <= k {
             return settle_many(text, at);
         }
-        if slots[k] != 0 {
-            return again(q, members, slots);
+        if seen.slots[k] != 0 {
+            seen.twice = true;
+            seen.place = q;
+            return seen;
         }
-        let v = moving::value_of(text, q);
-        slots[k] = v;
+        let v = m.value;
+        seen.slots[k] = v;
         q = moving::next_after(text, v);
         members += 1;
     }
@@ -489,10 +512,11 @@ fn first_unknown(text: &[u8], at: usize, known: &[usize]) -> Unknown
         if moving::at_end(text, q) {
             return Unknown::None;
         }
-        if !is_among(known, name_index(text, q)) {
+        let m = named(text, q);
+        if !is_among(known, m.index) {
             return Unknown::At(q);
         }
-        q = moving::next_after(text, moving::value_of(text, q));
+        q = moving::next_after(text, m.value);
         left -= 1;
     }
     Unknown::None

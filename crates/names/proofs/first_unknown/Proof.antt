@@ -34,8 +34,8 @@ returns c h =
     let l = c .before .before .before in
     sym (l .loop .inv h) ∙ unknown-end (now (l .before .before .before .before .args .known)) h _ _ (sym (c .before .at-end .ensures) ∙ c .if1 .taken)
 
-name-index-requires : tie.Need-name-index-requires Inv-loop μ-loop
-name-index-requires c κs = search needs
+named-requires : tie.Need-named-requires Inv-loop μ-loop
+named-requires c κs = search needs
 
 is-among-requires : tie.Need-is-among-requires Inv-loop μ-loop
 is-among-requires c κs = search needs
@@ -46,11 +46,8 @@ returns-2 c h =
     let l = t .before .before in
     let s = l .before .before .before .before .before in
     let e = sym (t .before .at-end .ensures) ∙ t .if1 .left in
-    let n = ap (λ k. isIn k (now (s .args .known))) (sym (c .before .before .name-index .ensures)) ∙ sym (c .before .is-among .ensures) in
+    let n = ap (λ k. isIn k (now (s .args .known))) (sym (c .before .before .named .ensures .0)) ∙ sym (c .before .is-among .ensures) in
     (sym (l .before .loop .inv h) ∙ unknown-here (now (s .args .known)) h _ _ (l .loop-test .taken) e (ap not n ∙ c .if2 .taken), not-behind _ _ e)
-
-value-of-requires : tie.Need-value-of-requires Inv-loop μ-loop
-value-of-requires c κs = search needs
 
 next-after-requires : tie.Need-next-after-requires Inv-loop μ-loop
 next-after-requires c κs = search needs
@@ -63,13 +60,13 @@ loop-less c = search needs
 
 loop-again : tie.Need-loop-again Inv-loop μ-loop
 loop-again c h =
-    let u = c .before .before in
+    let u = c .before in
     let t = u .before .before .before in
     let l = t .before .before in
     let s = l .before .before .before .before .before in
     let e = sym (t .before .at-end .ensures) ∙ t .if1 .left in
-    let n = ap (λ k. isIn k (now (s .args .known))) (sym (u .before .before .name-index .ensures)) ∙ sym (u .before .is-among .ensures) in
-    rw (c .next-after .ensures .lands, c .before .value-of .ensures .lands)
+    let n = ap (λ k. isIn k (now (s .args .known))) (sym (u .before .before .named .ensures .0)) ∙ sym (u .before .is-among .ensures) in
+    rw (c .next-after .ensures .lands, u .before .before .named .ensures .1 .lands)
     (unknown-on (now (s .args .known)) h _ _ (l .loop-test .taken) e (ap not n ∙ u .if2 .left) ∙ l .before .loop .inv h)
 
 returns-3 : tie.Need-returns-3 Inv-loop μ-loop
@@ -85,10 +82,9 @@ first-unknown-spec =
     loop-holds
     at-end-requires
     returns
-    name-index-requires
+    named-requires
     is-among-requires
     returns-2
-    value-of-requires
     next-after-requires
     sub-left
     loop-less

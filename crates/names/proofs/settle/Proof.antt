@@ -1,6 +1,7 @@
--- The members passed are settled, and the others stand at q. The measure is what is left of the length.
+-- No name stood twice; the members passed are settled, and the others stand at q. The measure is what is left of the length.
 use Prim.Native.Nat.{_-_}
-use mathlib.Core.Path.{refl, sym, _∙_}
+use mathlib.Core.Path.{_≡_, refl, sym, ap, _∙_}
+use mathlib.Core.Bool.{false}
 use lib.ListN.{length, getD-replicate}
 use borrow.Author.Needs.{needs}
 use Rattle.json.specs.Tree.{Place, Members, object}
@@ -11,30 +12,36 @@ use Rattle.names.proofs.settle.Statement.{statement}
 use Rattle.names.proofs.settle.Tie as tie
 
 abbrev Inv-loop : tie.InvT-loop
-Inv-loop text at slots₀ members₀ q₀ slots members q = (p : Place) (ms : Members) → At text at (object p ms) → Settling text at ms slots members q
+Inv-loop text at seen₀ members₀ q₀ seen members q =
+    (seen .twice ≡ false) × (seen .place ≡ 0) × ((p : Place) (ms : Members) → At text at (object p ms) → Settling text at ms (seen .slots) members q)
 
 abbrev μ-loop : tie.MeasureT-loop
-μ-loop text at slots₀ members₀ q₀ slots members q = length text - members
+μ-loop text at seen₀ members₀ q₀ seen members q = length text - members
+
+once-requires : tie.Need-once-requires Inv-loop μ-loop
+once-requires c κs = search needs
 
 first-in-requires : tie.Need-first-in-requires Inv-loop μ-loop
 first-in-requires c κs = search needs
 
 loop-holds : tie.Need-loop-holds Inv-loop μ-loop
-loop-holds c p ms a = settling-none a (c .first-in .ensures) refl (λ i h. getD-replicate 33 i 0 0 h)
+loop-holds c =
+    let e = c .before .once .ensures in (
+      ap (λ x. x .twice) e,
+      ap (λ x. x .place) e,
+      λ p ms a. rw e (settling-none a (c .first-in .ensures) refl (λ i h. getD-replicate 33 i 0 0 h)),
+    )
 
 at-end-requires : tie.Need-at-end-requires Inv-loop μ-loop
 at-end-requires c κs = search needs
 
-once-requires : tie.Need-once-requires Inv-loop μ-loop
-once-requires c κs = search needs
-
 returns : tie.Need-returns Inv-loop μ-loop
 returns c p ms a =
-    let e = c .before .before in
-    rw (c .once .ensures) (settled-end (e .before .before .loop .inv p ms a) (sym (e .at-end .ensures) ∙ c .before .if1 .taken))
+    let l = c .before .before .before .loop .inv in
+    rw (l .0, l .1) (settled-end (l .2 p ms a) (sym (c .before .at-end .ensures) ∙ c .if1 .taken))
 
-name-index-requires : tie.Need-name-index-requires Inv-loop μ-loop
-name-index-requires c κs = search needs
+named-requires : tie.Need-named-requires Inv-loop μ-loop
+named-requires c κs = search needs
 
 settle-many-requires : tie.Need-settle-many-requires Inv-loop μ-loop
 settle-many-requires c κs = search needs
@@ -45,29 +52,22 @@ returns-2 c = c .settle-many .ensures
 mul-if3 : tie.Need-mul-if3 Inv-loop μ-loop
 mul-if3 c = search needs
 
-array-read-if3 : tie.Need-array-read-if3 Inv-loop μ-loop
-array-read-if3 c = search needs
-
-again-requires : tie.Need-again-requires Inv-loop μ-loop
-again-requires c κs = search needs
+element-copy-out-if3 : tie.Need-element-copy-out-if3 Inv-loop μ-loop
+element-copy-out-if3 c = search needs
 
 returns-3 : tie.Need-returns-3 Inv-loop μ-loop
 returns-3 c p ms a =
     let u = c .before .before in
     let n = u .before in
     let t = n .before in
-    let s = t .before .before .before .loop .inv p ms a in
-    rw (c .again .ensures)
-    (settled-twice s (sym (t .before .at-end .ensures) ∙ t .if1 .left) (stood s _ (u .if2 .left) (n .name-index .ensures) (c .before .if3 .taken)))
+    let s = t .before .before .before .loop .inv .2 p ms a in
+    settled-twice s (sym (t .before .at-end .ensures) ∙ t .if1 .left) (stood s _ (u .if2 .left) (n .named .ensures .0) (c .if3 .taken))
 
-value-of-requires : tie.Need-value-of-requires Inv-loop μ-loop
-value-of-requires c κs = search needs
+mul-seen : tie.Need-mul-seen Inv-loop μ-loop
+mul-seen c = search needs
 
-mul-slots : tie.Need-mul-slots Inv-loop μ-loop
-mul-slots c = search needs
-
-array-write-slots : tie.Need-array-write-slots Inv-loop μ-loop
-array-write-slots c = search needs
+element-write-seen : tie.Need-element-write-seen Inv-loop μ-loop
+element-write-seen c = search needs
 
 next-after-requires : tie.Need-next-after-requires Inv-loop μ-loop
 next-after-requires c κs = search needs
@@ -79,17 +79,21 @@ loop-less : tie.Need-loop-less Inv-loop μ-loop
 loop-less c = search needs
 
 loop-again : tie.Need-loop-again Inv-loop μ-loop
-loop-again c p ms a =
-    let v = c .before in
-    let u = v .before .before in
+loop-again c =
+    let u = c .before .before .before in
     let n = u .before in
     let t = n .before in
     let l = t .before .before in
-    let s = l .before .loop .inv p ms a in
-    let known = n .name-index .ensures in
-    settling-on s (sym (t .before .at-end .ensures) ∙ t .if1 .left) (not-stood s _ (u .if2 .left) known (v .before .if3 .left))
-    (l .loop-test .taken) _ known _ (v .value-of .ensures) _ (c .next-after .ensures) _
-    (noted-known _ _ _ (s .size) (u .if2 .left) _ refl)
+    let i = l .before .loop .inv in
+    let known = n .named .ensures .0 in (
+      i .0,
+      i .1,
+      λ p ms a.
+          let s = i .2 p ms a in
+          settling-on s (sym (t .before .at-end .ensures) ∙ t .if1 .left) (not-stood s _ (u .if2 .left) known (c .before .if3 .left))
+          (l .loop-test .taken) _ known _ (n .named .ensures .1) _ (c .next-after .ensures) _
+          (noted-known _ _ _ (s .size) (u .if2 .left) _ refl),
+    )
 
 settle-many-requires-2 : tie.Need-settle-many-requires-2 Inv-loop μ-loop
 settle-many-requires-2 c κs = search needs
@@ -103,21 +107,19 @@ settle-spec =
     (tie.spec
     Inv-loop
     μ-loop
+    once-requires
     first-in-requires
     loop-holds
     at-end-requires
-    once-requires
     returns
-    name-index-requires
+    named-requires
     settle-many-requires
     returns-2
     mul-if3
-    array-read-if3
-    again-requires
+    element-copy-out-if3
     returns-3
-    value-of-requires
-    mul-slots
-    array-write-slots
+    mul-seen
+    element-write-seen
     next-after-requires
     add-members
     loop-less

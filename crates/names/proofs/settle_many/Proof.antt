@@ -72,11 +72,8 @@ mul-table c = search needs
 array-write-table : tie.Need-array-write-table Inv-loop μ-loop
 array-write-table c = search needs
 
-name-index-requires : tie.Need-name-index-requires Inv-loop μ-loop
-name-index-requires c κs = search needs
-
-value-of-requires : tie.Need-value-of-requires Inv-loop μ-loop
-value-of-requires c κs = search needs
+named-requires : tie.Need-named-requires Inv-loop μ-loop
+named-requires c κs = search needs
 
 mul-slots : tie.Need-mul-slots Inv-loop μ-loop
 mul-slots c = search needs
@@ -96,7 +93,7 @@ loop-less c = search needs
 loop-again : tie.Need-loop-again Inv-loop μ-loop
 loop-again c p ms a =
     let v = c .before .before in
-    let g = v .before .before in
+    let g = v .before in
     let d = g .before .before in
     let s = d .before .before in
     let t = s .before .before in
@@ -105,7 +102,7 @@ loop-again c p ms a =
     tabling-on i (s .slot-of .ensures) (sym (t .before .at-end .ensures) ∙ t .if1 .left) (sym (d .stood-in .ensures) ∙ g .before .if2 .left)
     (l .loop-test .taken)
     (⊎-elim (λ w. entered-in _ _ _ _ (i .size) (w .0 .taken) (w .1)) (λ w. entered-out _ _ _ _ (w .0 .left) (w .1)) (g .if3 .came))
-    _ (v .before .name-index .ensures) _ (v .value-of .ensures) _ (c .next-after .ensures) _
+    _ (v .named .ensures .0) _ (v .named .ensures .1) _ (c .next-after .ensures) _
     (⊎-elim (λ w. noted-known _ _ _ (i .settling .size) (w .0 .taken) _ (w .1)) (λ w. noted-other _ _ _ (w .0 .left) _ (w .1)) (c .before .if4 .came))
 
 once-requires-2 : tie.Need-once-requires-2 Inv-loop μ-loop
@@ -135,8 +132,7 @@ settle-many-spec =
     add-table
     mul-table
     array-write-table
-    name-index-requires
-    value-of-requires
+    named-requires
     mul-slots
     array-write-slots
     next-after-requires
