@@ -266,7 +266,7 @@ fn head_at(text: &[u8], at: usize, purpose: u64, room: usize, words: &mut [u64])
         return refused(o.number, o.place);
     }
     let slots = o.slots;
-    if let Unknown::At(q) = names::unknown_name(text, at, o.members, slots, &POSOLOGY) {
+    if let Unknown::At(q) = names::unknown_name(text, at, o.members, &slots, &POSOLOGY) {
         return refused(5, q);
     }
     let f = field::date_field(text, slots[DT_FROM]);

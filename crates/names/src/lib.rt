@@ -545,12 +545,12 @@ pub fn unknown_name(
     text: &[u8],
     at: usize,
     members: usize,
-    slots: [usize; NAMES],
+    slots: &[usize; NAMES],
     known: &[usize],
 ) -> Unknown
-    ensures { λ r. ⌜ (isRow (now (known .entry)) ≡ true → (p : Place) (ms : Members) → At (now (text .entry)) at (object p ms) → Once (now (text .entry)) (entriesOf ms) members slots → Tells (now (text .entry)) (unknown (rowNames (now (known .entry))) (entriesOf ms)) r) ⌝ }
+    ensures { λ r. ⌜ (isRow (now (known .entry)) ≡ true → (p : Place) (ms : Members) → At (now (text .entry)) at (object p ms) → Once (now (text .entry)) (entriesOf ms) members (now (slots .entry)) → Tells (now (text .entry)) (unknown (rowNames (now (known .entry))) (entriesOf ms)) r) ⌝ }
 {
-    if standing(&slots, known) == members {
+    if standing(slots, known) == members {
         return Unknown::None;
     }
     first_unknown(text, at, known)

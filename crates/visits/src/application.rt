@@ -64,7 +64,7 @@ fn read_application(text: &[u8], at: usize, timed: bool, used: Used, words: &mut
     let slots = o.slots;
     let own = name_of(timed, DT, S);
     let known = [DO, own];
-    if let Unknown::At(q) = names::unknown_name(text, at, o.members, slots, &known) {
+    if let Unknown::At(q) = names::unknown_name(text, at, o.members, &slots, &known) {
         return Visit::Refused(5, q);
     }
     let r = dosage::read_below(text, at, slots[DO], used, words);

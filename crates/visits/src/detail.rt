@@ -87,7 +87,7 @@ fn daily(text: &[u8], at: usize, o: Opened, used: Used, words: &mut [u64]) -> Vi
     ensures { λ r. ⌜ ((room : ℕ) → used .text ≤ room → KeptIn room 1 (now (words .entry)) used r (now (words .exit))) ⌝ }
 {
     let slots = o.slots;
-    if let Unknown::At(q) = names::unknown_name(text, at, o.members, slots, &DAILY) {
+    if let Unknown::At(q) = names::unknown_name(text, at, o.members, &slots, &DAILY) {
         return Visit::Refused(5, q);
     }
     let f = field::list_field(text, at, slots[DS]);
@@ -107,7 +107,7 @@ fn free_text(text: &[u8], at: usize, o: Opened, room: usize, used: Used, words: 
     ensures { λ r. ⌜ KeptIn room 1 (now (words .entry)) used r (now (words .exit)) ⌝ }
 {
     let slots = o.slots;
-    if let Unknown::At(q) = names::unknown_name(text, at, o.members, slots, &FREE_TEXT) {
+    if let Unknown::At(q) = names::unknown_name(text, at, o.members, &slots, &FREE_TEXT) {
         return Visit::Refused(5, q);
     }
     let start = used.text;
@@ -137,7 +137,7 @@ fn single(text: &[u8], at: usize, o: Opened, used: Used, words: &mut [u64]) -> V
     ensures { λ r. ⌜ ((room : ℕ) → used .text ≤ room → KeptIn room 1 (now (words .entry)) used r (now (words .exit))) ⌝ }
 {
     let slots = o.slots;
-    if let Unknown::At(q) = names::unknown_name(text, at, o.members, slots, &SINGLE) {
+    if let Unknown::At(q) = names::unknown_name(text, at, o.members, &slots, &SINGLE) {
         return Visit::Refused(5, q);
     }
     let r = timed::read_timed(
@@ -173,7 +173,7 @@ fn cyclic(text: &[u8], at: usize, o: Opened, used: Used, words: &mut [u64]) -> V
     ensures { λ r. ⌜ ((room : ℕ) → used .text ≤ room → KeptIn room 1 (now (words .entry)) used r (now (words .exit))) ⌝ }
 {
     let slots = o.slots;
-    if let Unknown::At(q) = names::unknown_name(text, at, o.members, slots, &CYCLIC) {
+    if let Unknown::At(q) = names::unknown_name(text, at, o.members, &slots, &CYCLIC) {
         return Visit::Refused(5, q);
     }
     let f = field::integer_field(text, at, slots[CY_DU_U], 1, 7);
@@ -220,7 +220,7 @@ fn pause(text: &[u8], at: usize, o: Opened, used: Used, words: &mut [u64]) -> Vi
     ensures { λ r. ⌜ ((room : ℕ) → used .text ≤ room → KeptIn room 1 (now (words .entry)) used r (now (words .exit))) ⌝ }
 {
     let slots = o.slots;
-    if let Unknown::At(q) = names::unknown_name(text, at, o.members, slots, &PAUSE) {
+    if let Unknown::At(q) = names::unknown_name(text, at, o.members, &slots, &PAUSE) {
         return Visit::Refused(5, q);
     }
     let f = field::integer_field(text, at, slots[DU], 1, 99999);
@@ -248,7 +248,7 @@ fn posology_sequence(
     ensures { λ r. ⌜ KeptIn room 1 (now (words .entry)) used r (now (words .exit)) ⌝ }
 {
     let slots = o.slots;
-    if let Unknown::At(q) = names::unknown_name(text, at, o.members, slots, &POSOLOGY_SEQUENCE) {
+    if let Unknown::At(q) = names::unknown_name(text, at, o.members, &slots, &POSOLOGY_SEQUENCE) {
         return Visit::Refused(5, q);
     }
     let f = field::integer_field(text, at, slots[DU], 1, 99999);
@@ -340,7 +340,7 @@ fn read_sequence(
     ensures { λ r. ⌜ KeptIn room 1 (now (words .entry)) used r (now (words .exit)) ⌝ }
 {
     let slots = o.slots;
-    if let Unknown::At(q) = names::unknown_name(text, at, o.members, slots, &SEQUENCE) {
+    if let Unknown::At(q) = names::unknown_name(text, at, o.members, &slots, &SEQUENCE) {
         return Visit::Refused(5, q);
     }
     let f = field::list_field(text, at, slots[SOS]);

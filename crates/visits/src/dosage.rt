@@ -37,7 +37,7 @@ fn simple(text: &[u8], at: usize, o: Opened, used: Used, words: &mut [u64]) -> V
     ensures { λ r. ⌜ Kept 1 (now (words .entry)) used r (now (words .exit)) ⌝ }
 {
     let slots = o.slots;
-    if let Unknown::At(q) = names::unknown_name(text, at, o.members, slots, &SIMPLE) {
+    if let Unknown::At(q) = names::unknown_name(text, at, o.members, &slots, &SIMPLE) {
         return Visit::Refused(5, q);
     }
     let f = field::decimal_field(text, at, slots[A], 1);
@@ -53,7 +53,7 @@ fn from_to(text: &[u8], at: usize, o: Opened, used: Used, words: &mut [u64]) -> 
     ensures { λ r. ⌜ Kept 1 (now (words .entry)) used r (now (words .exit)) ⌝ }
 {
     let slots = o.slots;
-    if let Unknown::At(q) = names::unknown_name(text, at, o.members, slots, &FROM_TO) {
+    if let Unknown::At(q) = names::unknown_name(text, at, o.members, &slots, &FROM_TO) {
         return Visit::Refused(5, q);
     }
     let f = field::decimal_field(text, at, slots[A_FROM], 0);
@@ -84,7 +84,7 @@ fn range(text: &[u8], at: usize, o: Opened, used: Used, words: &mut [u64]) -> Vi
     ensures { λ r. ⌜ Kept 1 (now (words .entry)) used r (now (words .exit)) ⌝ }
 {
     let slots = o.slots;
-    if let Unknown::At(q) = names::unknown_name(text, at, o.members, slots, &RANGE) {
+    if let Unknown::At(q) = names::unknown_name(text, at, o.members, &slots, &RANGE) {
         return Visit::Refused(5, q);
     }
     let f = field::decimal_field(text, at, slots[A_MIN], 1);

@@ -66,7 +66,7 @@ fn dosage_only(text: &[u8], at: usize, o: Opened, used: Used, words: &mut [u64])
     ensures { λ r. ⌜ Kept 1 (now (words .entry)) used r (now (words .exit)) ⌝ }
 {
     let slots = o.slots;
-    if let Unknown::At(q) = names::unknown_name(text, at, o.members, slots, &DOSAGE_ONLY) {
+    if let Unknown::At(q) = names::unknown_name(text, at, o.members, &slots, &DOSAGE_ONLY) {
         return Visit::Refused(5, q);
     }
     let r = dosage::read_below(text, at, slots[DO], used, words);
@@ -86,7 +86,7 @@ fn applications(text: &[u8], at: usize, o: Opened, used: Used, words: &mut [u64]
     let slots = o.slots;
     let own = name_of(timed, TS, SS);
     let known = [T, own];
-    if let Unknown::At(q) = names::unknown_name(text, at, o.members, slots, &known) {
+    if let Unknown::At(q) = names::unknown_name(text, at, o.members, &slots, &known) {
         return Visit::Refused(5, q);
     }
     let f = field::list_field(text, at, slots[own]);
@@ -106,7 +106,7 @@ fn interval(text: &[u8], at: usize, o: Opened, used: Used, words: &mut [u64]) ->
     ensures { λ r. ⌜ Kept 1 (now (words .entry)) used r (now (words .exit)) ⌝ }
 {
     let slots = o.slots;
-    if let Unknown::At(q) = names::unknown_name(text, at, o.members, slots, &INTERVAL) {
+    if let Unknown::At(q) = names::unknown_name(text, at, o.members, &slots, &INTERVAL) {
         return Visit::Refused(5, q);
     }
     let r = dosage::read_below(text, at, slots[DO], used, words);
@@ -164,7 +164,7 @@ fn on_days(text: &[u8], at: usize, o: Opened, used: Used, words: &mut [u64]) -> 
     let slots = o.slots;
     let own = name_of(week, WDS, DOMS);
     let known = [T, own, TDO];
-    if let Unknown::At(q) = names::unknown_name(text, at, o.members, slots, &known) {
+    if let Unknown::At(q) = names::unknown_name(text, at, o.members, &slots, &known) {
         return Visit::Refused(5, q);
     }
     let f = days::days_of(text, at, slots[own], week);

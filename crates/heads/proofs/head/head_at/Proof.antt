@@ -34,14 +34,14 @@ refused-requires-2 c κs = search needs
 
 returns-2 : tie.Need-returns-2
 returns-2 c p ms stands =
-    let s = c .before .before .before .before .before .before .before .before .before .before .before .args in
+    let s = c .before .before .before .before .before .before .before .before .before .before .before .before .args in
     let text = s .text .now in
-    let o = c .before .before .before .before .before .before .before .before .open-plain in
+    let o = c .before .before .before .before .before .before .before .before .before .open-plain in
     let opens = o .ensures p ms stands in
-    let e = c .before .before .before .before .before .before .before .if1 .left in
+    let e = c .before .before .before .before .before .before .before .before .if1 .left in
     let u = c .before .before .before .before .unknown-name in
     let tells = u .ensures refl p ms stands (once text (s .at) (s .room) (s .purpose) p ms stands (o .result) opens e) in
-    head-refused (c .refused2 .ensures) (unknown-name text (s .at) (s .room) (s .purpose) p ms stands (o .result) opens e (u .result) tells (c .before .before .q .given .1)) (c .before .before .before .before .before .before .before .before .before .before .before .pre .0)
+    head-refused (c .refused2 .ensures) (unknown-name text (s .at) (s .room) (s .purpose) p ms stands (o .result) opens e (u .result) tells (c .before .before .q .given .1)) (c .before .before .before .before .before .before .before .before .before .before .before .before .pre .0)
 
 enum-told : tie.Need-enum-told
 enum-told c = search needs
@@ -63,15 +63,15 @@ up-date-requires c κs = search needs
 
 returns-3 : tie.Need-returns-3
 returns-3 c p ms stands =
-    let s = c .before .before .before .before .before .before .before .before .before .before .before .before .before .args in
+    let s = c .before .before .before .before .before .before .before .before .before .before .before .before .before .before .args in
     let text = s .text .now in
-    let o = c .before .before .before .before .before .before .before .before .before .before .open-plain in
+    let o = c .before .before .before .before .before .before .before .before .before .before .before .open-plain in
     let opens = o .ensures p ms stands in
-    let e = c .before .before .before .before .before .before .before .before .before .if1 .left in
+    let e = c .before .before .before .before .before .before .before .before .before .before .if1 .left in
     let u = c .before .before .before .before .before .before .unknown-name in
     let tells = u .ensures refl p ms stands (once text (s .at) (s .room) (s .purpose) p ms stands (o .result) opens e) in
     let g = c .before .enum-told2 .given in
-    head-refused (c .up-date .ensures (g .0 .0) (g .0 .1 .0) (g .1)) (from-stops text (s .at) (s .room) (s .purpose) p ms stands (o .result) opens e (u .result) tells (c .before .before .before .before .enum-told .given .1) (c .before .before .before .date-field .result) (c .before .before .before .date-field .ensures) (g .1)) (c .before .before .before .before .before .before .before .before .before .before .before .before .before .pre .0)
+    head-refused (c .up-date .ensures (g .0 .0) (g .0 .1 .0) (g .1)) (from-stops text (s .at) (s .room) (s .purpose) p ms stands (o .result) opens e (u .result) tells (c .before .before .before .before .enum-told .given .1) (c .before .before .before .date-field .result) (c .before .before .before .date-field .ensures) (g .1)) (c .before .before .before .before .before .before .before .before .before .before .before .before .before .before .pre .0)
 
 array-read-date-field-2 : tie.Need-array-read-date-field-2
 array-read-date-field-2 c = search needs
@@ -90,15 +90,15 @@ up-date-requires-2 c κs = search needs
 
 returns-4 : tie.Need-returns-4
 returns-4 c p ms stands =
-    let s = c .before .before .before .before .before .before .before .before .before .before .before .before .before .before .before .before .before .args in
+    let s = c .before .before .before .before .before .before .before .before .before .before .before .before .before .before .before .before .before .before .args in
     let text = s .text .now in
-    let o = c .before .before .before .before .before .before .before .before .before .before .before .before .before .before .open-plain in
+    let o = c .before .before .before .before .before .before .before .before .before .before .before .before .before .before .before .open-plain in
     let opens = o .ensures p ms stands in
-    let e = c .before .before .before .before .before .before .before .before .before .before .before .before .before .if1 .left in
+    let e = c .before .before .before .before .before .before .before .before .before .before .before .before .before .before .if1 .left in
     let u = c .before .before .before .before .before .before .before .before .before .before .unknown-name in
     let tells = u .ensures refl p ms stands (once text (s .at) (s .room) (s .purpose) p ms stands (o .result) opens e) in
     let g = c .before .enum-told3 .given in
-    head-refused (c .up-date2 .ensures (g .0 .0) (g .0 .1 .0) (g .1)) (to-stops text (s .at) (s .room) (s .purpose) p ms stands (o .result) opens e (u .result) tells (c .before .before .before .before .before .before .before .before .enum-told .given .1) (c .before .before .before .before .before .before .before .date-field .result) (c .before .before .before .before .before .before .before .date-field .ensures) (c .before .before .before .before .before .f .given .1) (c .before .before .before .date-field2 .result) (c .before .before .before .date-field2 .ensures) (g .1)) (c .before .before .before .before .before .before .before .before .before .before .before .before .before .before .before .before .before .pre .0)
+    head-refused (c .up-date2 .ensures (g .0 .0) (g .0 .1 .0) (g .1)) (to-stops text (s .at) (s .room) (s .purpose) p ms stands (o .result) opens e (u .result) tells (c .before .before .before .before .before .before .before .before .enum-told .given .1) (c .before .before .before .before .before .before .before .date-field .result) (c .before .before .before .before .before .before .before .date-field .ensures) (c .before .before .before .before .before .f .given .1) (c .before .before .before .date-field2 .result) (c .before .before .before .date-field2 .ensures) (g .1)) (c .before .before .before .before .before .before .before .before .before .before .before .before .before .before .before .before .before .before .pre .0)
 
 array-read-flag-field : tie.Need-array-read-flag-field
 array-read-flag-field c = search needs
@@ -117,15 +117,15 @@ up-field-requires c κs = search needs
 
 returns-5 : tie.Need-returns-5
 returns-5 c p ms stands =
-    let s = c .before .before .before .before .before .before .before .before .before .before .before .before .before .before .before .before .before .before .before .before .before .args in
+    let s = c .before .before .before .before .before .before .before .before .before .before .before .before .before .before .before .before .before .before .before .before .before .before .args in
     let text = s .text .now in
-    let o = c .before .before .before .before .before .before .before .before .before .before .before .before .before .before .before .before .before .before .open-plain in
+    let o = c .before .before .before .before .before .before .before .before .before .before .before .before .before .before .before .before .before .before .before .open-plain in
     let opens = o .ensures p ms stands in
-    let e = c .before .before .before .before .before .before .before .before .before .before .before .before .before .before .before .before .before .if1 .left in
+    let e = c .before .before .before .before .before .before .before .before .before .before .before .before .before .before .before .before .before .before .if1 .left in
     let u = c .before .before .before .before .before .before .before .before .before .before .before .before .before .before .unknown-name in
     let tells = u .ensures refl p ms stands (once text (s .at) (s .room) (s .purpose) p ms stands (o .result) opens e) in
     let g = c .before .enum-told4 .given in
-    head-refused (c .up-field .ensures (g .0 .0) (g .0 .1 .0) (g .1)) (mark-stops text (s .at) (s .room) (s .purpose) p ms stands (o .result) opens e (u .result) tells (c .before .before .before .before .before .before .before .before .before .before .before .before .enum-told .given .1) (c .before .before .before .before .before .before .before .before .before .before .before .date-field .result) (c .before .before .before .before .before .before .before .before .before .before .before .date-field .ensures) (c .before .before .before .before .before .before .before .before .before .f .given .1) (c .before .before .before .before .before .before .before .date-field2 .result) (c .before .before .before .before .before .before .before .date-field2 .ensures) (c .before .before .before .before .before .f2 .given .1) (c .before .before .before .flag-field .result) (c .before .before .before .flag-field .ensures) (g .1)) (c .before .before .before .before .before .before .before .before .before .before .before .before .before .before .before .before .before .before .before .before .before .pre .0)
+    head-refused (c .up-field .ensures (g .0 .0) (g .0 .1 .0) (g .1)) (mark-stops text (s .at) (s .room) (s .purpose) p ms stands (o .result) opens e (u .result) tells (c .before .before .before .before .before .before .before .before .before .before .before .before .enum-told .given .1) (c .before .before .before .before .before .before .before .before .before .before .before .date-field .result) (c .before .before .before .before .before .before .before .before .before .before .before .date-field .ensures) (c .before .before .before .before .before .before .before .before .before .f .given .1) (c .before .before .before .before .before .before .before .date-field2 .result) (c .before .before .before .before .before .before .before .date-field2 .ensures) (c .before .before .before .before .before .f2 .given .1) (c .before .before .before .flag-field .result) (c .before .before .before .flag-field .ensures) (g .1)) (c .before .before .before .before .before .before .before .before .before .before .before .before .before .before .before .before .before .before .before .before .before .before .pre .0)
 
 with-detail-requires : tie.Need-with-detail-requires
 with-detail-requires c κs = search needs
@@ -135,11 +135,11 @@ same-length c = search needs
 
 returns-6 : tie.Need-returns-6
 returns-6 c p ms stands =
-    let s = c .before .before .before .before .before .before .before .before .before .before .before .before .before .before .before .before .before .before .before .before .before .before .before .before .before .args in
+    let s = c .before .before .before .before .before .before .before .before .before .before .before .before .before .before .before .before .before .before .before .before .before .before .before .before .before .before .args in
     let text = s .text .now in
-    let o = c .before .before .before .before .before .before .before .before .before .before .before .before .before .before .before .before .before .before .before .before .before .before .open-plain in
+    let o = c .before .before .before .before .before .before .before .before .before .before .before .before .before .before .before .before .before .before .before .before .before .before .before .open-plain in
     let opens = o .ensures p ms stands in
-    let e = c .before .before .before .before .before .before .before .before .before .before .before .before .before .before .before .before .before .before .before .before .before .if1 .left in
+    let e = c .before .before .before .before .before .before .before .before .before .before .before .before .before .before .before .before .before .before .before .before .before .before .if1 .left in
     let u = c .before .before .before .before .before .before .before .before .before .before .before .before .before .before .before .before .before .before .unknown-name in
     let tells = u .ensures refl p ms stands (once text (s .at) (s .room) (s .purpose) p ms stands (o .result) opens e) in
     head-read text (s .at) (s .room) (s .purpose) p ms stands (o .result) opens e (u .result) tells (c .before .before .before .before .before .before .before .before .before .before .before .before .before .before .before .before .enum-told .given .1) (c .before .before .before .before .before .before .before .before .before .before .before .before .before .before .before .date-field .result) (c .before .before .before .before .before .before .before .before .before .before .before .before .before .before .before .date-field .ensures) (c .before .before .before .before .before .before .before .before .before .before .before .before .before .f .given .1) (c .before .before .before .before .before .before .before .before .before .before .before .date-field2 .result) (c .before .before .before .before .before .before .before .before .before .before .before .date-field2 .ensures) (c .before .before .before .before .before .before .before .before .before .f2 .given .1) (c .before .before .before .before .before .before .before .flag-field .result) (c .before .before .before .before .before .before .before .flag-field .ensures) (c .before .before .before .before .before .f3 .given .1) (c .before .before .with-detail .ensures)

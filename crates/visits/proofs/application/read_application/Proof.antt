@@ -57,11 +57,11 @@ enum-known-q c = search needs
 
 returns-3 : tie.Need-returns-3
 returns-3 c =
-    let s = c .before .before .before .before .before .before .before .before .before .before .before .before .before in (
+    let s = c .before .before .before .before .before .before .before .before .before .before .before .before .before .before in (
       λ room p ms a fits.
-          let o = c .before .before .before .before .before .before .before .before .before .before .open-plain .ensures p ms a in (
-            refuses-as (plain-as o (anApplication (s .args .timed)) p (leftOf room (s .args .used)) (application-plain (s .args .timed)) (c .before .before .before .before .before .before .before .before .before .if1 .left) (object-at a))
-                (body-unknown (application-known (s .args .timed) (c .before .before .before .before .before .name-of .ensures)) p (entriesOf ms) room (s .args .used) (leb-false _ _ (sym (c .before .before .before .before .before .before .before .before .is-full .ensures) ∙ c .before .before .before .before .before .before .before .if2 .left)) _ (c .before .before .before .unknown-name .ensures (application-row (s .args .timed) (c .before .before .before .before .before .name-of .ensures)) p ms a (o .settled (c .before .before .before .before .before .before .before .before .before .if1 .left))) (c .before .q .given .1)),
+          let o = c .before .before .before .before .before .before .before .before .before .before .before .open-plain .ensures p ms a in (
+            refuses-as (plain-as o (anApplication (s .args .timed)) p (leftOf room (s .args .used)) (application-plain (s .args .timed)) (c .before .before .before .before .before .before .before .before .before .before .if1 .left) (object-at a))
+                (body-unknown (application-known (s .args .timed) (c .before .before .before .before .before .before .name-of .ensures)) p (entriesOf ms) room (s .args .used) (leb-false _ _ (sym (c .before .before .before .before .before .before .before .before .before .is-full .ensures) ∙ c .before .before .before .before .before .before .before .before .if2 .left)) _ (c .before .before .before .unknown-name .ensures (application-row (s .args .timed) (c .before .before .before .before .before .before .name-of .ensures)) p ms a (o .settled (c .before .before .before .before .before .before .before .before .before .before .if1 .left))) (c .before .q .given .1)),
             refl,
           ),
       kept-refused 1 (s .args .used) refl refl,
@@ -74,7 +74,7 @@ array-read-read-below : tie.Need-array-read-read-below
 array-read-read-below c = search needs
 
 read-below-requires : tie.Need-read-below-requires
-read-below-requires c κs = let s = c .before .before .before .before .before .before .before .before .before .before .before .before .before in (s .pre .0, (leb-false _ _ (sym (c .before .before .before .before .before .before .before .before .is-full .ensures) ∙ c .before .before .before .before .before .before .before .if2 .left)), s .pre .1)
+read-below-requires c κs = let s = c .before .before .before .before .before .before .before .before .before .before .before .before .before .before in (s .pre .0, (leb-false _ _ (sym (c .before .before .before .before .before .before .before .before .before .is-full .ensures) ∙ c .before .before .before .before .before .before .before .before .if2 .left)), s .pre .1)
 
 enum-known-r : tie.Need-enum-known-r
 enum-known-r c = search needs
@@ -87,16 +87,16 @@ same-length c = search needs
 
 returns-4 : tie.Need-returns-4
 returns-4 c =
-    let s = c .before .before .before .before .before .before .before .before .before .before .before .before .before .before .before .before .before .before in
+    let s = c .before .before .before .before .before .before .before .before .before .before .before .before .before .before .before .before .before .before .before in
     let told = c .enum-told2 .given .1 in (
       λ room p ms a fits.
-          let o = c .before .before .before .before .before .before .before .before .before .before .before .before .before .before .before .open-plain .ensures p ms a in
-          let k = visited-refused _ _ _ _ _ _ _ (c .before .before .before .before .read-below .ensures .0 room _ (o .settled (c .before .before .before .before .before .before .before .before .before .before .before .before .before .before .if1 .left) .slot 8 (omega arith)) fits) told in
+          let o = c .before .before .before .before .before .before .before .before .before .before .before .before .before .before .before .before .open-plain .ensures p ms a in
+          let k = visited-refused _ _ _ _ _ _ _ (c .before .before .before .before .read-below .ensures .0 room _ (o .settled (c .before .before .before .before .before .before .before .before .before .before .before .before .before .before .before .if1 .left) .slot 8 (omega arith)) fits) told in
           rw (told, object-at a) (
             refuses-as
-                (plain-as o (anApplication (s .args .timed)) _ (leftOf room (s .args .used)) (application-plain (s .args .timed)) (c .before .before .before .before .before .before .before .before .before .before .before .before .before .before .if1 .left) refl
-                ∙ body-opens (application-known (s .args .timed) (c .before .before .before .before .before .before .before .before .before .before .name-of .ensures)) _ (entriesOf ms) room (s .args .used) (leb-false _ _ (sym (c .before .before .before .before .before .before .before .before .before .before .before .before .before .is-full .ensures) ∙ c .before .before .before .before .before .before .before .before .before .before .before .before .if2 .left)) _ (c .before .before .before .before .before .before .before .before .unknown-name .ensures (application-row (s .args .timed) (c .before .before .before .before .before .before .before .before .before .before .name-of .ensures)) p ms a (o .settled (c .before .before .before .before .before .before .before .before .before .before .before .before .before .before .if1 .left))) (c .before .before .before .before .before .before .enum-told .given .1)
-                ∙ application-fields _ (entriesOf ms) (leftOf room (more (s .args .used))) (s .args .timed) (c .before .before .before .before .before .before .before .before .before .before .name-of .ensures))
+                (plain-as o (anApplication (s .args .timed)) _ (leftOf room (s .args .used)) (application-plain (s .args .timed)) (c .before .before .before .before .before .before .before .before .before .before .before .before .before .before .before .if1 .left) refl
+                ∙ body-opens (application-known (s .args .timed) (c .before .before .before .before .before .before .before .before .before .before .before .name-of .ensures)) _ (entriesOf ms) room (s .args .used) (leb-false _ _ (sym (c .before .before .before .before .before .before .before .before .before .before .before .before .before .before .is-full .ensures) ∙ c .before .before .before .before .before .before .before .before .before .before .before .before .before .if2 .left)) _ (c .before .before .before .before .before .before .before .before .unknown-name .ensures (application-row (s .args .timed) (c .before .before .before .before .before .before .before .before .before .before .before .name-of .ensures)) p ms a (o .settled (c .before .before .before .before .before .before .before .before .before .before .before .before .before .before .before .if1 .left))) (c .before .before .before .before .before .before .enum-told .given .1)
+                ∙ application-fields _ (entriesOf ms) (leftOf room (more (s .args .used))) (s .args .timed) (c .before .before .before .before .before .before .before .before .before .before .before .name-of .ensures))
                 (refuses-bind _ (k .0)),
             k .1,
           ),
@@ -104,10 +104,10 @@ returns-4 c =
     )
 
 mul-own-field : tie.Need-mul-own-field
-mul-own-field c = omega (arith, name-small (c .before .before .before .before .before .before .before .before .before .before .before .before .before .before .before .before .before .before .before .args .timed) (c .before .before .before .before .before .before .before .before .before .before .before .name-of .ensures) (omega arith) (omega arith))
+mul-own-field c = omega (arith, name-small (c .before .before .before .before .before .before .before .before .before .before .before .before .before .before .before .before .before .before .before .before .args .timed) (c .before .before .before .before .before .before .before .before .before .before .before .before .name-of .ensures) (omega arith) (omega arith))
 
 array-read-own-field : tie.Need-array-read-own-field
-array-read-own-field c = name-small (c .before .before .before .before .before .before .before .before .before .before .before .before .before .before .before .before .before .before .before .args .timed) (c .before .before .before .before .before .before .before .before .before .before .before .name-of .ensures) (omega arith) (omega arith)
+array-read-own-field c = name-small (c .before .before .before .before .before .before .before .before .before .before .before .before .before .before .before .before .before .before .before .before .args .timed) (c .before .before .before .before .before .before .before .before .before .before .before .before .name-of .ensures) (omega arith) (omega arith)
 
 own-field-requires : tie.Need-own-field-requires
 own-field-requires c κs = search needs
@@ -126,18 +126,18 @@ same-length-2 c = search needs
 
 returns-5 : tie.Need-returns-5
 returns-5 c =
-    let s = c .before .before .before .before .before .before .before .before .before .before .before .before .before .before .before .before .before .before .before .before .before .before .before in
+    let s = c .before .before .before .before .before .before .before .before .before .before .before .before .before .before .before .before .before .before .before .before .before .before .before .before in
     let up = c .up .ensures _ _ (c .before .enum-told3 .given .1) in (
       λ room p ms a fits.
-          let o = c .before .before .before .before .before .before .before .before .before .before .before .before .before .before .before .before .before .before .before .before .open-plain .ensures p ms a in
-          let d = visited-done _ _ _ _ _ _ _ (c .before .before .before .before .before .before .before .before .before .read-below .ensures .0 room _ (o .settled (c .before .before .before .before .before .before .before .before .before .before .before .before .before .before .before .before .before .before .before .if1 .left) .slot 8 (omega arith)) fits) (c .before .before .before .before .before .r .given .1) in
+          let o = c .before .before .before .before .before .before .before .before .before .before .before .before .before .before .before .before .before .before .before .before .before .open-plain .ensures p ms a in
+          let d = visited-done _ _ _ _ _ _ _ (c .before .before .before .before .before .before .before .before .before .read-below .ensures .0 room _ (o .settled (c .before .before .before .before .before .before .before .before .before .before .before .before .before .before .before .before .before .before .before .before .if1 .left) .slot 8 (omega arith)) fits) (c .before .before .before .before .before .r .given .1) in
           rw (up, object-at a) (
             refuses-as
-                (plain-as o (anApplication (s .args .timed)) _ (leftOf room (s .args .used)) (application-plain (s .args .timed)) (c .before .before .before .before .before .before .before .before .before .before .before .before .before .before .before .before .before .before .before .if1 .left) refl
-                ∙ body-opens (application-known (s .args .timed) (c .before .before .before .before .before .before .before .before .before .before .before .before .before .before .before .name-of .ensures)) _ (entriesOf ms) room (s .args .used) (leb-false _ _ (sym (c .before .before .before .before .before .before .before .before .before .before .before .before .before .before .before .before .before .before .is-full .ensures) ∙ c .before .before .before .before .before .before .before .before .before .before .before .before .before .before .before .before .before .if2 .left)) _ (c .before .before .before .before .before .before .before .before .before .before .before .before .before .unknown-name .ensures (application-row (s .args .timed) (c .before .before .before .before .before .before .before .before .before .before .before .before .before .before .before .name-of .ensures)) p ms a (o .settled (c .before .before .before .before .before .before .before .before .before .before .before .before .before .before .before .before .before .before .before .if1 .left))) (c .before .before .before .before .before .before .before .before .before .before .before .enum-told .given .1)
-                ∙ application-fields _ (entriesOf ms) (leftOf room (more (s .args .used))) (s .args .timed) (c .before .before .before .before .before .before .before .before .before .before .before .before .before .before .before .name-of .ensures)
+                (plain-as o (anApplication (s .args .timed)) _ (leftOf room (s .args .used)) (application-plain (s .args .timed)) (c .before .before .before .before .before .before .before .before .before .before .before .before .before .before .before .before .before .before .before .before .if1 .left) refl
+                ∙ body-opens (application-known (s .args .timed) (c .before .before .before .before .before .before .before .before .before .before .before .before .before .before .before .before .name-of .ensures)) _ (entriesOf ms) room (s .args .used) (leb-false _ _ (sym (c .before .before .before .before .before .before .before .before .before .before .before .before .before .before .before .before .before .before .before .is-full .ensures) ∙ c .before .before .before .before .before .before .before .before .before .before .before .before .before .before .before .before .before .before .if2 .left)) _ (c .before .before .before .before .before .before .before .before .before .before .before .before .before .unknown-name .ensures (application-row (s .args .timed) (c .before .before .before .before .before .before .before .before .before .before .before .before .before .before .before .before .name-of .ensures)) p ms a (o .settled (c .before .before .before .before .before .before .before .before .before .before .before .before .before .before .before .before .before .before .before .before .if1 .left))) (c .before .before .before .before .before .before .before .before .before .before .before .enum-told .given .1)
+                ∙ application-fields _ (entriesOf ms) (leftOf room (more (s .args .used))) (s .args .timed) (c .before .before .before .before .before .before .before .before .before .before .before .before .before .before .before .before .name-of .ensures)
                 ∙ done-bind _ (d .outcome))
-                (refuses-bind _ (reads-refused _ _ (c .before .before .before .own-field .ensures (s .pre .1) _ (o .settled (c .before .before .before .before .before .before .before .before .before .before .before .before .before .before .before .before .before .before .before .if1 .left) .slot _ (name-small (s .args .timed) (c .before .before .before .before .before .before .before .before .before .before .before .before .before .before .before .name-of .ensures) (omega arith) (omega arith))) _) (c .before .enum-told3 .given .1))),
+                (refuses-bind _ (reads-refused _ _ (c .before .before .before .own-field .ensures (s .pre .1) _ (o .settled (c .before .before .before .before .before .before .before .before .before .before .before .before .before .before .before .before .before .before .before .before .if1 .left) .slot _ (name-small (s .args .timed) (c .before .before .before .before .before .before .before .before .before .before .before .before .before .before .before .before .name-of .ensures) (omega arith) (omega arith))) _) (c .before .enum-told3 .given .1))),
             c .before .before .before .before .before .before .before .before .before .read-below .ensures .1 .size,
           ),
       kept-refused 1 (s .args .used) up (c .before .before .before .before .before .before .before .before .before .read-below .ensures .1 .size),
@@ -154,19 +154,19 @@ same-length-3 c = search needs
 
 returns-6 : tie.Need-returns-6
 returns-6 c =
-    let s = c .before .before .before .before .before .before .before .before .before .before .before .before .before .before .before .before .before .before .before .before .before .before .before .before .before .before .before .before in
-    let kept = above-stores _ _ _ (c .before .before .before .before .before .before .before .before .before .before .before .before .before .before .read-below .ensures .1 .size ∙ s .pre .0 .size) (leb-false _ _ (sym (c .before .before .before .before .before .before .before .before .before .before .before .before .before .before .before .before .before .before .before .before .before .before .before .is-full .ensures) ∙ c .before .before .before .before .before .before .before .before .before .before .before .before .before .before .before .before .before .before .before .before .before .before .if2 .left)) (c .before .before .above .ensures) in
+    let s = c .before .before .before .before .before .before .before .before .before .before .before .before .before .before .before .before .before .before .before .before .before .before .before .before .before .before .before .before .before in
+    let kept = above-stores _ _ _ (c .before .before .before .before .before .before .before .before .before .before .before .before .before .before .read-below .ensures .1 .size ∙ s .pre .0 .size) (leb-false _ _ (sym (c .before .before .before .before .before .before .before .before .before .before .before .before .before .before .before .before .before .before .before .before .before .before .before .before .is-full .ensures) ∙ c .before .before .before .before .before .before .before .before .before .before .before .before .before .before .before .before .before .before .before .before .before .before .before .if2 .left)) (c .before .before .above .ensures) in
     let grown = c .before .before .before .before .before .before .before .before .before .before .before .before .before .before .read-below .ensures .1 .grown _ (c .before .before .before .before .before .before .before .before .before .before .r .given .1) in (
       λ room p ms a fits.
-          let o = c .before .before .before .before .before .before .before .before .before .before .before .before .before .before .before .before .before .before .before .before .before .before .before .before .before .open-plain .ensures p ms a in
-          let d = visited-done _ _ _ _ _ _ _ (c .before .before .before .before .before .before .before .before .before .before .before .before .before .before .read-below .ensures .0 room _ (o .settled (c .before .before .before .before .before .before .before .before .before .before .before .before .before .before .before .before .before .before .before .before .before .before .before .before .if1 .left) .slot 8 (omega arith)) fits) (c .before .before .before .before .before .before .before .before .before .before .r .given .1) in
+          let o = c .before .before .before .before .before .before .before .before .before .before .before .before .before .before .before .before .before .before .before .before .before .before .before .before .before .before .open-plain .ensures p ms a in
+          let d = visited-done _ _ _ _ _ _ _ (c .before .before .before .before .before .before .before .before .before .before .before .before .before .before .read-below .ensures .0 room _ (o .settled (c .before .before .before .before .before .before .before .before .before .before .before .before .before .before .before .before .before .before .before .before .before .before .before .before .before .if1 .left) .slot 8 (omega arith)) fits) (c .before .before .before .before .before .before .before .before .before .before .r .given .1) in
           rw (kept .0, object-at a)
           (above-did d _ (words _ _ _ 0 0 0)
-          (plain-as o (anApplication (s .args .timed)) _ (leftOf room (s .args .used)) (application-plain (s .args .timed)) (c .before .before .before .before .before .before .before .before .before .before .before .before .before .before .before .before .before .before .before .before .before .before .before .before .if1 .left) refl
-          ∙ body-opens (application-known (s .args .timed) (c .before .before .before .before .before .before .before .before .before .before .before .before .before .before .before .before .before .before .before .before .name-of .ensures)) _ (entriesOf ms) room (s .args .used) (leb-false _ _ (sym (c .before .before .before .before .before .before .before .before .before .before .before .before .before .before .before .before .before .before .before .before .before .before .before .is-full .ensures) ∙ c .before .before .before .before .before .before .before .before .before .before .before .before .before .before .before .before .before .before .before .before .before .before .if2 .left)) _ (c .before .before .before .before .before .before .before .before .before .before .before .before .before .before .before .before .before .before .unknown-name .ensures (application-row (s .args .timed) (c .before .before .before .before .before .before .before .before .before .before .before .before .before .before .before .before .before .before .before .before .name-of .ensures)) p ms a (o .settled (c .before .before .before .before .before .before .before .before .before .before .before .before .before .before .before .before .before .before .before .before .before .before .before .before .if1 .left))) (c .before .before .before .before .before .before .before .before .before .before .before .before .before .before .before .before .enum-told .given .1)
-          ∙ application-fields _ (entriesOf ms) (leftOf room (more (s .args .used))) (s .args .timed) (c .before .before .before .before .before .before .before .before .before .before .before .before .before .before .before .before .before .before .before .before .name-of .ensures)
+          (plain-as o (anApplication (s .args .timed)) _ (leftOf room (s .args .used)) (application-plain (s .args .timed)) (c .before .before .before .before .before .before .before .before .before .before .before .before .before .before .before .before .before .before .before .before .before .before .before .before .before .if1 .left) refl
+          ∙ body-opens (application-known (s .args .timed) (c .before .before .before .before .before .before .before .before .before .before .before .before .before .before .before .before .before .before .before .before .before .name-of .ensures)) _ (entriesOf ms) room (s .args .used) (leb-false _ _ (sym (c .before .before .before .before .before .before .before .before .before .before .before .before .before .before .before .before .before .before .before .before .before .before .before .before .is-full .ensures) ∙ c .before .before .before .before .before .before .before .before .before .before .before .before .before .before .before .before .before .before .before .before .before .before .before .if2 .left)) _ (c .before .before .before .before .before .before .before .before .before .before .before .before .before .before .before .before .before .before .unknown-name .ensures (application-row (s .args .timed) (c .before .before .before .before .before .before .before .before .before .before .before .before .before .before .before .before .before .before .before .before .before .name-of .ensures)) p ms a (o .settled (c .before .before .before .before .before .before .before .before .before .before .before .before .before .before .before .before .before .before .before .before .before .before .before .before .before .if1 .left))) (c .before .before .before .before .before .before .before .before .before .before .before .before .before .before .before .before .enum-told .given .1)
+          ∙ application-fields _ (entriesOf ms) (leftOf room (more (s .args .used))) (s .args .timed) (c .before .before .before .before .before .before .before .before .before .before .before .before .before .before .before .before .before .before .before .before .before .name-of .ensures)
           ∙ done-bind _ (d .outcome)
-          ∙ done-bind _ (reads-done _ (c .before .before .before .before .before .before .before .before .own-field .ensures (s .pre .1) _ (o .settled (c .before .before .before .before .before .before .before .before .before .before .before .before .before .before .before .before .before .before .before .before .before .before .before .before .if1 .left) .slot _ (name-small (s .args .timed) (c .before .before .before .before .before .before .before .before .before .before .before .before .before .before .before .before .before .before .before .before .name-of .ensures) (omega arith) (omega arith))) _) (c .before .before .before .before .before .before .f .given .1)))
+          ∙ done-bind _ (reads-done _ (c .before .before .before .before .before .before .before .before .own-field .ensures (s .pre .1) _ (o .settled (c .before .before .before .before .before .before .before .before .before .before .before .before .before .before .before .before .before .before .before .before .before .before .before .before .before .if1 .left) .slot _ (name-small (s .args .timed) (c .before .before .before .before .before .before .before .before .before .before .before .before .before .before .before .before .before .before .before .before .before .name-of .ensures) (omega arith) (omega arith))) _) (c .before .before .before .before .before .before .f .given .1)))
           (application-rows (s .args .timed) (d .value) _ (c .before .before .before .tag-of .ensures) (counted (s .args .used) d 1 (d .row) refl) (d .row))
           (kept .1)),
       kept-done (kept .0) ((simp length-set at (ap length (kept .1))) ∙ c .before .before .before .before .before .before .before .before .before .before .before .before .before .before .read-below .ensures .1 .size) (record { some = omega (arith, grown .some); few = grown .few }),

@@ -185,7 +185,7 @@ posology-sequence-enum-known-q t c = search needs
 posology-sequence-returns : (t : ℕ) → posology-sequence-lts.Need-returns (posology-sequence-claims t) (posology-sequence-at t) posology-sequence.Post
 unfolding rowsOf posologySequenceRows nameAt names
 posology-sequence-returns t c =
-    let s = c .before .before .before .before .before .before .before .before in
+    let s = c .before .before .before .before .before .before .before .before .before in
     let a = s .args in (
       λ p ms stands once.
           (body-unknown (D.posology-sequence-known (a .left)) p (entriesOf ms) (a .room) (a .used) (s .pre .1 .1) (a .text .now) (c .before .before .before .unknown-name .ensures refl p ms stands once) (c .before .q .given .1), refl),
@@ -213,7 +213,7 @@ posology-sequence-up-requires t c κs = search needs
 posology-sequence-returns-2 : (t : ℕ) → posology-sequence-lts.Need-returns-2 (posology-sequence-claims t) (posology-sequence-at t) posology-sequence.Post
 unfolding rowsOf posologySequenceRows nameAt names
 posology-sequence-returns-2 t c =
-    let s = c .before .before .before .before .before .before .before .before .before .before .before in
+    let s = c .before .before .before .before .before .before .before .before .before .before .before .before in
     let a = s .args in
     let up = c .up .ensures _ _ (c .before .enum-told2 .given .1) in (
       λ p ms stands once.
@@ -242,7 +242,7 @@ posology-sequence-up-requires-2 t c κs = search needs
 posology-sequence-returns-3 : (t : ℕ) → posology-sequence-lts.Need-returns-3 (posology-sequence-claims t) (posology-sequence-at t) posology-sequence.Post
 unfolding rowsOf posologySequenceRows nameAt names
 posology-sequence-returns-3 t c =
-    let s = c .before .before .before .before .before .before .before .before .before .before .before .before .before .before .before in
+    let s = c .before .before .before .before .before .before .before .before .before .before .before .before .before .before .before .before in
     let a = s .args in
     let up = c .up2 .ensures _ _ (c .before .enum-told3 .given .1) in (
       λ p ms stands once.
@@ -263,7 +263,7 @@ posology-sequence-one-more-requires t c κs = search needs
 
 posology-sequence-read-detail-requires : (t : ℕ) → posology-sequence-lts.Need-read-detail-requires (posology-sequence-claims t) (posology-sequence-at t) posology-sequence.Post
 posology-sequence-read-detail-requires t c κs =
-    let s = c .before .before .before .before .before .before .before .before .before .before .before .before .before .before .before .before .before in
+    let s = c .before .before .before .before .before .before .before .before .before .before .before .before .before .before .before .before .before .before in
     (omega (arith, s .pre .0), (D.ready-more (one-more (s .pre .1 .1) (c .before .one-more .ensures)) (s .pre .1 .0) (s .pre .1 .1), s .pre .1 .2, S.more-text (s .args .used) (one-more (s .pre .1 .1) (c .before .one-more .ensures)) (s .pre .1 .3)))
 
 posology-sequence-enum-known-r : (t : ℕ) → posology-sequence-lts.Need-enum-known-r (posology-sequence-claims t) (posology-sequence-at t) posology-sequence.Post
@@ -278,7 +278,7 @@ posology-sequence-same-length t c = search needs
 posology-sequence-returns-4 : (t : ℕ) → posology-sequence-lts.Need-returns-4 (posology-sequence-claims t) (posology-sequence-at t) posology-sequence.Post
 unfolding rowsOf posologySequenceRows nameAt names
 posology-sequence-returns-4 t c =
-    let s = c .before .before .before .before .before .before .before .before .before .before .before .before .before .before .before .before .before .before .before .before .before .before in
+    let s = c .before .before .before .before .before .before .before .before .before .before .before .before .before .before .before .before .before .before .before .before .before .before .before in
     let a = s .args in (
       λ p ms stands once.
           let l = leftOf (a .room) (more (a .used)) in
@@ -301,7 +301,7 @@ posology-sequence-same-length-2 t c = search needs
 posology-sequence-returns-5 : (t : ℕ) → posology-sequence-lts.Need-returns-5 (posology-sequence-claims t) (posology-sequence-at t) posology-sequence.Post
 unfolding rowsOf posologySequenceRows nameAt names
 posology-sequence-returns-5 t c =
-    let s = c .before .before .before .before .before .before .before .before .before .before .before .before .before .before .before .before .before .before .before .before .before .before .before .before .before .before .before in
+    let s = c .before .before .before .before .before .before .before .before .before .before .before .before .before .before .before .before .before .before .before .before .before .before .before .before .before .before .before .before in
     let a = s .args in
     let above = above-stores _ _ _ (c .before .before .before .before .before .before .before .before .before .read-detail .ensures .1 .kept .size ∙ s .pre .1 .0 .size) (s .pre .1 .1) (c .before .before .above .ensures) in (
       λ p ms stands once.
@@ -471,7 +471,7 @@ read-sequence-enum-known-q t c = search needs
 read-sequence-returns : (t : ℕ) → read-sequence-lts.Need-returns (read-sequence-claims t) (read-sequence-at t) read-sequence.Post
 unfolding rowsOf sequenceRows nameAt names
 read-sequence-returns t c =
-    let s = c .before .before .before .before .before .before .before .before in
+    let s = c .before .before .before .before .before .before .before .before .before in
     let a = s .args in (
       λ p ms stands once.
           (body-unknown (D.sequence-known (suc (a .inside))) p (entriesOf ms) (a .room) (a .used) (s .pre .1 .1) (a .text .now) (c .before .before .before .unknown-name .ensures refl p ms stands once) (c .before .q .given .1), refl),
@@ -499,7 +499,7 @@ read-sequence-up-found-requires t c κs = search needs
 read-sequence-returns-2 : (t : ℕ) → read-sequence-lts.Need-returns-2 (read-sequence-claims t) (read-sequence-at t) read-sequence.Post
 unfolding rowsOf sequenceRows nameAt names
 read-sequence-returns-2 t c =
-    let s = c .before .before .before .before .before .before .before .before .before .before .before in
+    let s = c .before .before .before .before .before .before .before .before .before .before .before .before in
     let a = s .args in
     let up = c .up-found .ensures _ _ (c .before .enum-told2 .given .1) in (
       λ p ms stands once.
@@ -520,7 +520,7 @@ read-sequence-at-end-requires t c κs = search needs
 read-sequence-returns-3 : (t : ℕ) → read-sequence-lts.Need-returns-3 (read-sequence-claims t) (read-sequence-at t) read-sequence.Post
 unfolding rowsOf sequenceRows nameAt names
 read-sequence-returns-3 t c =
-    let s = c .before .before .before .before .before .before .before .before .before .before .before .before .before .before in
+    let s = c .before .before .before .before .before .before .before .before .before .before .before .before .before .before .before in
     let a = s .args in (
       λ p ms stands once.
           let l = leftOf (a .room) (more (a .used)) in
@@ -535,7 +535,7 @@ read-sequence-one-more-requires t c κs = search needs
 
 read-sequence-read-objects-requires : (t : ℕ) → read-sequence-lts.Need-read-objects-requires (read-sequence-claims t) (read-sequence-at t) read-sequence.Post
 read-sequence-read-objects-requires t c κs =
-    let s = c .before .before .before .before .before .before .before .before .before .before .before .before .before .before .before .before in
+    let s = c .before .before .before .before .before .before .before .before .before .before .before .before .before .before .before .before .before in
     (omega (arith, s .pre .0), (D.ready-more (one-more (s .pre .1 .1) (c .before .one-more .ensures)) (s .pre .1 .0) (s .pre .1 .1), omega (arith, c .before .before .before .before .before .before .before .before .list-field .ensures .1 _ (c .before .before .before .before .before .before .f .given .1)), S.more-text (s .args .used) (one-more (s .pre .1 .1) (c .before .one-more .ensures)) (s .pre .1 .3)))
 
 read-sequence-enum-known-r : (t : ℕ) → read-sequence-lts.Need-enum-known-r (read-sequence-claims t) (read-sequence-at t) read-sequence.Post
@@ -550,7 +550,7 @@ read-sequence-same-length t c = search needs
 read-sequence-returns-4 : (t : ℕ) → read-sequence-lts.Need-returns-4 (read-sequence-claims t) (read-sequence-at t) read-sequence.Post
 unfolding rowsOf sequenceRows nameAt names
 read-sequence-returns-4 t c =
-    let s = c .before .before .before .before .before .before .before .before .before .before .before .before .before .before .before .before .before .before .before .before .before in
+    let s = c .before .before .before .before .before .before .before .before .before .before .before .before .before .before .before .before .before .before .before .before .before .before in
     let a = s .args in (
       λ p ms stands once.
           let l = leftOf (a .room) (more (a .used)) in
@@ -570,7 +570,7 @@ read-sequence-same-length-2 t c = search needs
 read-sequence-returns-5 : (t : ℕ) → read-sequence-lts.Need-returns-5 (read-sequence-claims t) (read-sequence-at t) read-sequence.Post
 unfolding rowsOf sequenceRows nameAt names
 read-sequence-returns-5 t c =
-    let s = c .before .before .before .before .before .before .before .before .before .before .before .before .before .before .before .before .before .before .before .before .before .before .before .before .before .before in
+    let s = c .before .before .before .before .before .before .before .before .before .before .before .before .before .before .before .before .before .before .before .before .before .before .before .before .before .before .before in
     let a = s .args in
     let above = above-stores _ _ _ (c .before .before .before .before .before .before .before .before .before .read-objects .ensures .1 .kept .size ∙ s .pre .1 .0 .size) (s .pre .1 .1) (c .before .before .above .ensures) in (
       λ p ms stands once.

@@ -30,7 +30,7 @@ enum-known-q c = search needs
 returns : tie.Need-returns
 unfolding rowsOf cyclicRows nameAt names
 returns c =
-    let s = c .before .before .before .before .before .before .before .before in
+    let s = c .before .before .before .before .before .before .before .before .before in
     let a = s .args in (
       λ n room fits p ms stands once.
           (body-unknown (D.cyclic-known n) p (entriesOf ms) room (a .used) (s .pre .1) (a .text .now) (c .before .before .before .unknown-name .ensures refl p ms stands once) (c .before .q .given .1), refl),
@@ -58,7 +58,7 @@ up-requires c κs = search needs
 returns-2 : tie.Need-returns-2
 unfolding rowsOf cyclicRows nameAt names
 returns-2 c =
-    let s = c .before .before .before .before .before .before .before .before .before .before .before in
+    let s = c .before .before .before .before .before .before .before .before .before .before .before .before in
     let a = s .args in
     let up = c .up .ensures _ _ (c .before .enum-told2 .given .1) in (
       λ n room fits p ms stands once.
@@ -87,7 +87,7 @@ up-requires-2 c κs = search needs
 returns-3 : tie.Need-returns-3
 unfolding rowsOf cyclicRows nameAt names
 returns-3 c =
-    let s = c .before .before .before .before .before .before .before .before .before .before .before .before .before .before .before in
+    let s = c .before .before .before .before .before .before .before .before .before .before .before .before .before .before .before .before in
     let a = s .args in
     let up = c .up2 .ensures _ _ (c .before .enum-told3 .given .1) in (
       λ n room fits p ms stands once.
@@ -111,7 +111,7 @@ one-more-requires c κs = search needs
 
 read-timed-requires : tie.Need-read-timed-requires
 read-timed-requires c κs =
-    let s = c .before .before .before .before .before .before .before .before .before .before .before .before .before .before .before .before .before .before in
+    let s = c .before .before .before .before .before .before .before .before .before .before .before .before .before .before .before .before .before .before .before in
     (D.ready-more (one-more (s .pre .1) (c .before .one-more .ensures)) (s .pre .0) (s .pre .1), s .pre .2, c .before .before .under-cyclic .ensures .1)
 
 enum-known-r : tie.Need-enum-known-r
@@ -126,7 +126,7 @@ same-length c = search needs
 returns-4 : tie.Need-returns-4
 unfolding rowsOf cyclicRows nameAt names
 returns-4 c =
-    let s = c .before .before .before .before .before .before .before .before .before .before .before .before .before .before .before .before .before .before .before .before .before .before .before in
+    let s = c .before .before .before .before .before .before .before .before .before .before .before .before .before .before .before .before .before .before .before .before .before .before .before .before in
     let a = s .args in (
       λ n room fits p ms stands once.
           let l = leftOf room (more (a .used)) in
@@ -162,7 +162,7 @@ same-length-2 c = search needs
 returns-5 : tie.Need-returns-5
 unfolding rowsOf cyclicRows nameAt names
 returns-5 c =
-    let s = c .before .before .before .before .before .before .before .before .before .before .before .before .before .before .before .before .before .before .before .before .before .before .before .before .before .before .before .before in
+    let s = c .before .before .before .before .before .before .before .before .before .before .before .before .before .before .before .before .before .before .before .before .before .before .before .before .before .before .before .before .before in
     let a = s .args in
     let up = c .up3 .ensures _ _ (c .before .enum-told5 .given .1) in (
       λ n room fits p ms stands once.
@@ -189,7 +189,7 @@ same-length-3 c = search needs
 returns-6 : tie.Need-returns-6
 unfolding rowsOf cyclicRows nameAt names
 returns-6 c =
-    let s = c .before .before .before .before .before .before .before .before .before .before .before .before .before .before .before .before .before .before .before .before .before .before .before .before .before .before .before .before .before .before .before .before in
+    let s = c .before .before .before .before .before .before .before .before .before .before .before .before .before .before .before .before .before .before .before .before .before .before .before .before .before .before .before .before .before .before .before .before .before in
     let a = s .args in
     let above = above-stores _ _ _ (c .before .before .before .before .before .before .before .before .before .before .before .before .before .read-timed .ensures .1 .size ∙ s .pre .0 .size) (s .pre .1) (c .before .before .above .ensures) in (
       λ n room fits p ms stands once.

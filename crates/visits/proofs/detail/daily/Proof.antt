@@ -27,7 +27,7 @@ enum-known-q c = search needs
 returns : tie.Need-returns
 unfolding rowsOf dailyRows nameAt names
 returns c =
-    let s = c .before .before .before .before .before .before .before .before in
+    let s = c .before .before .before .before .before .before .before .before .before in
     let a = s .args in (
       λ n room fits p ms stands once.
           (body-unknown (D.daily-known n) p (entriesOf ms) room (a .used) (s .pre .1) (a .text .now) (c .before .before .before .unknown-name .ensures refl p ms stands once) (c .before .q .given .1), refl),
@@ -55,7 +55,7 @@ up-found-requires c κs = search needs
 returns-2 : tie.Need-returns-2
 unfolding rowsOf dailyRows nameAt names
 returns-2 c =
-    let s = c .before .before .before .before .before .before .before .before .before .before .before in
+    let s = c .before .before .before .before .before .before .before .before .before .before .before .before in
     let a = s .args in
     let up = c .up-found .ensures _ _ (c .before .enum-told2 .given .1) in (
       λ n room fits p ms stands once.
@@ -73,7 +73,7 @@ count-requires c κs = search needs
 returns-3 : tie.Need-returns-3
 unfolding rowsOf dailyRows nameAt names
 returns-3 c =
-    let s = c .before .before .before .before .before .before .before .before .before .before .before .before .before in
+    let s = c .before .before .before .before .before .before .before .before .before .before .before .before .before .before in
     let a = s .args in (
       λ n room fits p ms stands once.
           let l = leftOf room (more (a .used)) in
@@ -85,7 +85,7 @@ returns-3 c =
 
 four-requires : tie.Need-four-requires
 four-requires c κs =
-    let s = c .before .before .before .before .before .before .before .before .before .before .before .before .before .before in
+    let s = c .before .before .before .before .before .before .before .before .before .before .before .before .before .before .before in
     (s .pre .0, s .pre .1)
 
 same-length : tie.Need-same-length
@@ -94,7 +94,7 @@ same-length c = search needs
 returns-4 : tie.Need-returns-4
 unfolding rowsOf dailyRows nameAt names
 returns-4 c =
-    let s = c .before .before .before .before .before .before .before .before .before .before .before .before .before .before .before .before .before in
+    let s = c .before .before .before .before .before .before .before .before .before .before .before .before .before .before .before .before .before .before in
     let a = s .args in (
       λ n room fits p ms stands once.
           let l = leftOf room (more (a .used)) in

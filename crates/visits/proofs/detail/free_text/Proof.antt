@@ -28,7 +28,7 @@ enum-known-q c = search needs
 returns : tie.Need-returns
 unfolding rowsOf freeTextRows nameAt names
 returns c =
-    let s = c .before .before .before .before .before .before .before .before in
+    let s = c .before .before .before .before .before .before .before .before .before in
     let a = s .args in (
       λ n p ms stands once.
           (body-unknown (D.free-text-known n) p (entriesOf ms) (a .room) (a .used) (s .pre .1) (a .text .now) (c .before .before .before .unknown-name .ensures refl p ms stands once) (c .before .q .given .1), refl),
@@ -59,7 +59,7 @@ up-worded-requires c κs = search needs
 returns-2 : tie.Need-returns-2
 unfolding rowsOf freeTextRows nameAt names
 returns-2 c =
-    let s = c .before .before .before .before .before .before .before .before .before .before .before in
+    let s = c .before .before .before .before .before .before .before .before .before .before .before .before in
     let a = s .args in
     let up = c .up-worded .ensures _ _ (c .before .enum-told2 .given .1) in (
       λ n p ms stands once.
@@ -87,7 +87,7 @@ same-length c = search needs
 returns-3 : tie.Need-returns-3
 unfolding rowsOf freeTextRows nameAt names
 returns-3 c =
-    let s = c .before .before .before .before .before .before .before .before .before .before .before .before .before .before .before .before in
+    let s = c .before .before .before .before .before .before .before .before .before .before .before .before .before .before .before .before .before in
     let a = s .args in (
       λ n p ms stands once.
           let l = leftOf (a .room) (more (a .used)) in

@@ -30,7 +30,7 @@ enum-known-q c = search needs
 returns : tie.Need-returns
 unfolding rowsOf pauseRows nameAt names
 returns c =
-    let s = c .before .before .before .before .before .before .before .before in
+    let s = c .before .before .before .before .before .before .before .before .before in
     let a = s .args in (
       λ n room fits p ms stands once.
           (body-unknown (D.pause-known n) p (entriesOf ms) room (a .used) (s .pre .1) (a .text .now) (c .before .before .before .unknown-name .ensures refl p ms stands once) (c .before .q .given .1), refl),
@@ -58,7 +58,7 @@ up-requires c κs = search needs
 returns-2 : tie.Need-returns-2
 unfolding rowsOf pauseRows nameAt names
 returns-2 c =
-    let s = c .before .before .before .before .before .before .before .before .before .before .before in
+    let s = c .before .before .before .before .before .before .before .before .before .before .before .before in
     let a = s .args in
     let up = c .up .ensures _ _ (c .before .enum-told2 .given .1) in (
       λ n room fits p ms stands once.
@@ -87,7 +87,7 @@ up-requires-2 c κs = search needs
 returns-3 : tie.Need-returns-3
 unfolding rowsOf pauseRows nameAt names
 returns-3 c =
-    let s = c .before .before .before .before .before .before .before .before .before .before .before .before .before .before .before in
+    let s = c .before .before .before .before .before .before .before .before .before .before .before .before .before .before .before .before in
     let a = s .args in
     let up = c .up2 .ensures _ _ (c .before .enum-told3 .given .1) in (
       λ n room fits p ms stands once.
@@ -108,7 +108,7 @@ same-length c = search needs
 returns-4 : tie.Need-returns-4
 unfolding rowsOf pauseRows nameAt names ObjectRows objectStrings
 returns-4 c =
-    let s = c .before .before .before .before .before .before .before .before .before .before .before .before .before .before .before .before .before .before .before in
+    let s = c .before .before .before .before .before .before .before .before .before .before .before .before .before .before .before .before .before .before .before .before in
     let a = s .args in
     let leaf = leaf-stores _ _ _ (s .pre .0 .size) (s .pre .1) (c .before .before .leaf .ensures) in (
       λ n room fits p ms stands once.

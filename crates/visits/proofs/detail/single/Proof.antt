@@ -28,7 +28,7 @@ enum-known-q c = search needs
 returns : tie.Need-returns
 unfolding rowsOf singleRows nameAt names
 returns c =
-    let s = c .before .before .before .before .before .before .before .before in
+    let s = c .before .before .before .before .before .before .before .before .before in
     let a = s .args in (
       λ n room fits p ms stands once.
           (body-unknown (D.single-known n) p (entriesOf ms) room (a .used) (s .pre .1) (a .text .now) (c .before .before .before .unknown-name .ensures refl p ms stands once) (c .before .q .given .1), refl),
@@ -46,7 +46,7 @@ one-more-requires c κs = search needs
 
 read-timed-requires : tie.Need-read-timed-requires
 read-timed-requires c κs =
-    let s = c .before .before .before .before .before .before .before .before .before in
+    let s = c .before .before .before .before .before .before .before .before .before .before in
     (D.ready-more (one-more (s .pre .1) (c .before .one-more .ensures)) (s .pre .0) (s .pre .1), s .pre .2, omega arith)
 
 enum-known-r : tie.Need-enum-known-r
@@ -61,7 +61,7 @@ same-length c = search needs
 returns-2 : tie.Need-returns-2
 unfolding rowsOf singleRows nameAt names
 returns-2 c =
-    let s = c .before .before .before .before .before .before .before .before .before .before .before .before .before .before in
+    let s = c .before .before .before .before .before .before .before .before .before .before .before .before .before .before .before in
     let a = s .args in (
       λ n room fits p ms stands once.
           let l = leftOf room (more (a .used)) in
@@ -81,7 +81,7 @@ same-length-2 c = search needs
 returns-3 : tie.Need-returns-3
 unfolding rowsOf singleRows nameAt names
 returns-3 c =
-    let s = c .before .before .before .before .before .before .before .before .before .before .before .before .before .before .before .before .before .before .before in
+    let s = c .before .before .before .before .before .before .before .before .before .before .before .before .before .before .before .before .before .before .before .before in
     let a = s .args in
     let above = above-stores _ _ _ (c .before .before .before .before .before .before .before .before .before .read-timed .ensures .1 .size ∙ s .pre .0 .size) (s .pre .1) (c .before .before .above .ensures) in (
       λ n room fits p ms stands once.

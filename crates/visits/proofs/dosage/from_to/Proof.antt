@@ -26,7 +26,7 @@ enum-known-q c = search needs
 
 returns : tie.Need-returns
 returns c =
-    let s = c .before .before .before .before .before .before .before .before in (
+    let s = c .before .before .before .before .before .before .before .before .before in (
       λ room p ms a once fits.
           (body-unknown from-to-known p (entriesOf ms) room (s .args .used) (s .pre .1) _ (c .before .before .before .unknown-name .ensures refl p ms a once) (c .before .q .given .1), refl),
       kept-refused 1 (s .args .used) refl refl,
@@ -52,7 +52,7 @@ up-requires c κs = search needs
 
 returns-2 : tie.Need-returns-2
 returns-2 c =
-    let s = c .before .before .before .before .before .before .before .before .before .before .before in
+    let s = c .before .before .before .before .before .before .before .before .before .before .before .before in
     let up = c .up .ensures _ _ (c .before .enum-told2 .given .1) in (
       λ room p ms a once fits.
           rw (up, object-at a) (
@@ -82,7 +82,7 @@ up-requires-2 c κs = search needs
 
 returns-3 : tie.Need-returns-3
 returns-3 c =
-    let s = c .before .before .before .before .before .before .before .before .before .before .before .before .before .before .before in
+    let s = c .before .before .before .before .before .before .before .before .before .before .before .before .before .before .before .before in
     let up = c .up2 .ensures _ _ (c .before .enum-told3 .given .1) in (
       λ room p ms a once fits.
           rw (up, object-at a) (
@@ -113,7 +113,7 @@ up-requires-3 c κs = search needs
 
 returns-4 : tie.Need-returns-4
 returns-4 c =
-    let s = c .before .before .before .before .before .before .before .before .before .before .before .before .before .before .before .before .before .before .before in
+    let s = c .before .before .before .before .before .before .before .before .before .before .before .before .before .before .before .before .before .before .before .before in
     let up = c .up3 .ensures _ _ (c .before .enum-told4 .given .1) in (
       λ room p ms a once fits.
           rw (up, object-at a) (
@@ -145,7 +145,7 @@ up-requires-4 c κs = search needs
 
 returns-5 : tie.Need-returns-5
 returns-5 c =
-    let s = c .before .before .before .before .before .before .before .before .before .before .before .before .before .before .before .before .before .before .before .before .before .before .before in
+    let s = c .before .before .before .before .before .before .before .before .before .before .before .before .before .before .before .before .before .before .before .before .before .before .before .before in
     let up = c .up4 .ensures _ _ (c .before .enum-told5 .given .1) in (
       λ room p ms a once fits.
           rw (up, object-at a) (
@@ -163,7 +163,7 @@ returns-5 c =
 
 returns-6 : tie.Need-returns-6
 returns-6 c =
-    let s = c .before .before .before .before .before .before .before .before .before .before .before .before .before .before .before .before .before .before .before .before .before .before .before .before in (
+    let s = c .before .before .before .before .before .before .before .before .before .before .before .before .before .before .before .before .before .before .before .before .before .before .before .before .before in (
       λ room p ms a once fits.
           rw (object-at a) (
             record {
@@ -190,7 +190,7 @@ same-length c = search needs
 
 returns-7 : tie.Need-returns-7
 returns-7 c =
-    let s = c .before .before .before .before .before .before .before .before .before .before .before .before .before .before .before .before .before .before .before .before .before .before .before .before .before .before .before .before in
+    let s = c .before .before .before .before .before .before .before .before .before .before .before .before .before .before .before .before .before .before .before .before .before .before .before .before .before .before .before .before .before in
     let kept = leaf-stores _ _ _ (s .pre .0 .size) (s .pre .1) (c .before .before .leaf .ensures) in (
       λ room p ms a once fits.
           rw (kept .0, object-at a)

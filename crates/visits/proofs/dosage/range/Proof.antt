@@ -26,7 +26,7 @@ enum-known-q c = search needs
 
 returns : tie.Need-returns
 returns c =
-    let s = c .before .before .before .before .before .before .before .before in (
+    let s = c .before .before .before .before .before .before .before .before .before in (
       λ room p ms a once fits.
           (body-unknown range-known p (entriesOf ms) room (s .args .used) (s .pre .1) _ (c .before .before .before .unknown-name .ensures refl p ms a once) (c .before .q .given .1), refl),
       kept-refused 1 (s .args .used) refl refl,
@@ -52,7 +52,7 @@ up-requires c κs = search needs
 
 returns-2 : tie.Need-returns-2
 returns-2 c =
-    let s = c .before .before .before .before .before .before .before .before .before .before .before in
+    let s = c .before .before .before .before .before .before .before .before .before .before .before .before in
     let up = c .up .ensures _ _ (c .before .enum-told2 .given .1) in (
       λ room p ms a once fits.
           rw (up, object-at a) (
@@ -82,7 +82,7 @@ up-requires-2 c κs = search needs
 
 returns-3 : tie.Need-returns-3
 returns-3 c =
-    let s = c .before .before .before .before .before .before .before .before .before .before .before .before .before .before .before in
+    let s = c .before .before .before .before .before .before .before .before .before .before .before .before .before .before .before .before in
     let up = c .up2 .ensures _ _ (c .before .enum-told3 .given .1) in (
       λ room p ms a once fits.
           rw (up, object-at a) (
@@ -98,7 +98,7 @@ returns-3 c =
 
 returns-4 : tie.Need-returns-4
 returns-4 c =
-    let s = c .before .before .before .before .before .before .before .before .before .before .before .before .before .before .before .before in (
+    let s = c .before .before .before .before .before .before .before .before .before .before .before .before .before .before .before .before .before in (
       λ room p ms a once fits.
           rw (object-at a) (
             record {
@@ -123,7 +123,7 @@ same-length c = search needs
 
 returns-5 : tie.Need-returns-5
 returns-5 c =
-    let s = c .before .before .before .before .before .before .before .before .before .before .before .before .before .before .before .before .before .before .before .before in
+    let s = c .before .before .before .before .before .before .before .before .before .before .before .before .before .before .before .before .before .before .before .before .before in
     let kept = leaf-stores _ _ _ (s .pre .0 .size) (s .pre .1) (c .before .before .leaf .ensures) in (
       λ room p ms a once fits.
           rw (kept .0, object-at a)

@@ -24,7 +24,7 @@ enum-known-q c = search needs
 
 returns : tie.Need-returns
 returns c =
-    let s = c .before .before .before .before .before .before .before .before in (
+    let s = c .before .before .before .before .before .before .before .before .before in (
       λ room p ms a once fits.
           (body-unknown simple-known p (entriesOf ms) room (s .args .used) (s .pre .1) _ (c .before .before .before .unknown-name .ensures refl p ms a once) (c .before .q .given .1), refl),
       kept-refused 1 (s .args .used) refl refl,
@@ -50,7 +50,7 @@ up-requires c κs = search needs
 
 returns-2 : tie.Need-returns-2
 returns-2 c =
-    let s = c .before .before .before .before .before .before .before .before .before .before .before in
+    let s = c .before .before .before .before .before .before .before .before .before .before .before .before in
     let up = c .up .ensures _ _ (c .before .enum-told2 .given .1) in (
       λ room p ms a once fits.
           rw (up, object-at a) (
@@ -71,7 +71,7 @@ same-length c = search needs
 
 returns-3 : tie.Need-returns-3
 returns-3 c =
-    let s = c .before .before .before .before .before .before .before .before .before .before .before .before .before .before .before in
+    let s = c .before .before .before .before .before .before .before .before .before .before .before .before .before .before .before .before in
     let kept = leaf-stores _ _ _ (s .pre .0 .size) (s .pre .1) (c .before .before .leaf .ensures) in (
       λ room p ms a once fits.
           rw (kept .0, object-at a)

@@ -33,11 +33,11 @@ enum-known-q c = search needs
 
 returns : tie.Need-returns
 returns c =
-    let s = c .before .before .before .before .before .before .before .before .before .before in
+    let s = c .before .before .before .before .before .before .before .before .before .before .before in
     let timed = eqb (s .args .o .kind) 2 in
     let t = of-two 2 (s .args .o .kind) (s .pre .3) (s .pre .4) in (
       λ ts room p ms a once fits.
-          (body-unknown (applications-known ts timed t (c .before .before .before .before .before .name-of .ensures)) p (entriesOf ms) room (s .args .used) (s .pre .1) _ (c .before .before .before .unknown-name .ensures (applications-row timed (c .before .before .before .before .before .name-of .ensures)) p ms a once) (c .before .q .given .1), refl),
+          (body-unknown (applications-known ts timed t (c .before .before .before .before .before .before .name-of .ensures)) p (entriesOf ms) room (s .args .used) (s .pre .1) _ (c .before .before .before .unknown-name .ensures (applications-row timed (c .before .before .before .before .before .before .name-of .ensures)) p ms a once) (c .before .q .given .1), refl),
       kept-refused 1 (s .args .used) refl refl,
     )
 
@@ -45,10 +45,10 @@ enum-told : tie.Need-enum-told
 enum-told c = search needs
 
 mul-list-field : tie.Need-mul-list-field
-mul-list-field c = omega (arith, name-small (eqb (c .before .before .before .before .before .before .before .before .before .args .o .kind) 2) (c .before .before .before .before .name-of .ensures) (omega arith) (omega arith))
+mul-list-field c = omega (arith, name-small (eqb (c .before .before .before .before .before .before .before .before .before .before .args .o .kind) 2) (c .before .before .before .before .before .name-of .ensures) (omega arith) (omega arith))
 
 array-read-list-field : tie.Need-array-read-list-field
-array-read-list-field c = name-small (eqb (c .before .before .before .before .before .before .before .before .before .args .o .kind) 2) (c .before .before .before .before .name-of .ensures) (omega arith) (omega arith)
+array-read-list-field c = name-small (eqb (c .before .before .before .before .before .before .before .before .before .before .args .o .kind) 2) (c .before .before .before .before .before .name-of .ensures) (omega arith) (omega arith)
 
 list-field-requires : tie.Need-list-field-requires
 list-field-requires c κs = search needs
@@ -64,7 +64,7 @@ up-found-requires c κs = search needs
 
 returns-2 : tie.Need-returns-2
 returns-2 c =
-    let s = c .before .before .before .before .before .before .before .before .before .before .before .before .before in
+    let s = c .before .before .before .before .before .before .before .before .before .before .before .before .before .before in
     let timed = eqb (s .args .o .kind) 2 in
     let t = of-two 2 (s .args .o .kind) (s .pre .3) (s .pre .4) in
     let told = c .before .enum-told2 .given .1 in
@@ -72,9 +72,9 @@ returns-2 c =
       λ ts room p ms a once fits.
           rw (up, object-at a) (
             refuses-as
-                (body-opens (applications-known ts timed t (c .before .before .before .before .before .before .before .before .name-of .ensures)) _ (entriesOf ms) room (s .args .used) (s .pre .1) _ (c .before .before .before .before .before .before .unknown-name .ensures (applications-row timed (c .before .before .before .before .before .before .before .before .name-of .ensures)) p ms a once) (c .before .before .before .before .enum-told .given .1)
-                ∙ applications-fields _ (entriesOf ms) (leftOf room (more (s .args .used))) ts timed t (c .before .before .before .before .before .before .before .before .name-of .ensures))
-                (refuses-bind _ (finds-no-list _ _ (c .before .before .before .list-field .ensures .0 (s .pre .2) _ (once .slot _ (name-small timed (c .before .before .before .before .before .before .before .before .name-of .ensures) (omega arith) (omega arith)))) told (any-objects (anApplication timed)) (leftOf room (more (s .args .used))))),
+                (body-opens (applications-known ts timed t (c .before .before .before .before .before .before .before .before .before .name-of .ensures)) _ (entriesOf ms) room (s .args .used) (s .pre .1) _ (c .before .before .before .before .before .before .unknown-name .ensures (applications-row timed (c .before .before .before .before .before .before .before .before .before .name-of .ensures)) p ms a once) (c .before .before .before .before .enum-told .given .1)
+                ∙ applications-fields _ (entriesOf ms) (leftOf room (more (s .args .used))) ts timed t (c .before .before .before .before .before .before .before .before .before .name-of .ensures))
+                (refuses-bind _ (finds-no-list _ _ (c .before .before .before .list-field .ensures .0 (s .pre .2) _ (once .slot _ (name-small timed (c .before .before .before .before .before .before .before .before .before .name-of .ensures) (omega arith) (omega arith)))) told (any-objects (anApplication timed)) (leftOf room (more (s .args .used))))),
             refl,
           ),
       kept-refused 1 (s .args .used) up refl,
@@ -85,7 +85,7 @@ one-more-requires c κs = search needs
 
 read-applications-requires : tie.Need-read-applications-requires
 read-applications-requires c κs =
-    let s = c .before .before .before .before .before .before .before .before .before .before .before .before .before .before .before in
+    let s = c .before .before .before .before .before .before .before .before .before .before .before .before .before .before .before .before in
     rw (one-more (s .pre .1) (c .before .one-more .ensures)) (record { size = s .pre .0 .size; few = omega (arith, s .pre .1) }, omega (arith, c .before .before .before .before .before .list-field .ensures .1 _ (c .before .before .before .f .given .1)))
 
 enum-known-r : tie.Need-enum-known-r
@@ -99,19 +99,19 @@ same-length c = search needs
 
 returns-3 : tie.Need-returns-3
 returns-3 c =
-    let s = c .before .before .before .before .before .before .before .before .before .before .before .before .before .before .before .before .before .before .before .before in
+    let s = c .before .before .before .before .before .before .before .before .before .before .before .before .before .before .before .before .before .before .before .before .before in
     let timed = eqb (s .args .o .kind) 2 in
     let t = of-two 2 (s .args .o .kind) (s .pre .3) (s .pre .4) in
     let told = c .enum-told3 .given .1 in
     let k = rw (one-more (s .pre .1) (c .before .before .before .before .before .before .one-more .ensures)) at (c .before .before .before .before .read-applications .ensures) in (
       λ ts room p ms a once fits.
-          let x = finds-list _ _ (c .before .before .before .before .before .before .before .before .before .before .list-field .ensures .0 (s .pre .2) _ (once .slot _ (name-small timed (c .before .before .before .before .before .before .before .before .before .before .before .before .before .before .before .name-of .ensures) (omega arith) (omega arith)))) (c .before .before .before .before .before .before .before .before .f .given .1) in
+          let x = finds-list _ _ (c .before .before .before .before .before .before .before .before .before .before .list-field .ensures .0 (s .pre .2) _ (once .slot _ (name-small timed (c .before .before .before .before .before .before .before .before .before .before .before .before .before .before .before .before .name-of .ensures) (omega arith) (omega arith)))) (c .before .before .before .before .before .before .before .before .f .given .1) in
           let e = x .outcome (any-objects (anApplication timed)) (leftOf room (more (s .args .used))) in
           let w = visited-refused _ _ _ _ _ _ _ (k .0 room (x .place) (x .inner) (x .stands) fits) told in
           rw (told, object-at a) (
             refuses-as
-                (body-opens (applications-known ts timed t (c .before .before .before .before .before .before .before .before .before .before .before .before .before .before .before .name-of .ensures)) _ (entriesOf ms) room (s .args .used) (s .pre .1) _ (c .before .before .before .before .before .before .before .before .before .before .before .before .before .unknown-name .ensures (applications-row timed (c .before .before .before .before .before .before .before .before .before .before .before .before .before .before .before .name-of .ensures)) p ms a once) (c .before .before .before .before .before .before .before .before .before .before .before .enum-told .given .1)
-                ∙ applications-fields _ (entriesOf ms) (leftOf room (more (s .args .used))) ts timed t (c .before .before .before .before .before .before .before .before .before .before .before .before .before .before .before .name-of .ensures))
+                (body-opens (applications-known ts timed t (c .before .before .before .before .before .before .before .before .before .before .before .before .before .before .before .before .name-of .ensures)) _ (entriesOf ms) room (s .args .used) (s .pre .1) _ (c .before .before .before .before .before .before .before .before .before .before .before .before .before .unknown-name .ensures (applications-row timed (c .before .before .before .before .before .before .before .before .before .before .before .before .before .before .before .before .name-of .ensures)) p ms a once) (c .before .before .before .before .before .before .before .before .before .before .before .enum-told .given .1)
+                ∙ applications-fields _ (entriesOf ms) (leftOf room (more (s .args .used))) ts timed t (c .before .before .before .before .before .before .before .before .before .before .before .before .before .before .before .before .name-of .ensures))
                 (refuses-bind _ (refuses-as e (w .0))),
             w .1,
           ),
@@ -119,7 +119,7 @@ returns-3 c =
     )
 
 add-above : tie.Need-add-above
-add-above c = omega (arith, c .before .before .before .before .before .before .before .before .before .before .before .before .before .before .before .before .before .before .before .before .before .before .before .pre .4)
+add-above c = omega (arith, c .before .before .before .before .before .before .before .before .before .before .before .before .before .before .before .before .before .before .before .before .before .before .before .before .pre .4)
 
 above-requires : tie.Need-above-requires
 above-requires c κs = search needs
@@ -129,20 +129,20 @@ same-length-2 c = search needs
 
 returns-4 : tie.Need-returns-4
 returns-4 c =
-    let s = c .before .before .before .before .before .before .before .before .before .before .before .before .before .before .before .before .before .before .before .before .before .before .before .before .before .before in
+    let s = c .before .before .before .before .before .before .before .before .before .before .before .before .before .before .before .before .before .before .before .before .before .before .before .before .before .before .before in
     let timed = eqb (s .args .o .kind) 2 in
     let t = of-two 2 (s .args .o .kind) (s .pre .3) (s .pre .4) in
     let k = rw (one-more (s .pre .1) (c .before .before .before .before .before .before .before .before .before .before .before .before .one-more .ensures)) at (c .before .before .before .before .before .before .before .before .before .before .read-applications .ensures) in
     let kept = above-stores _ _ _ (k .1 .size ∙ s .pre .0 .size) (s .pre .1) (c .before .before .above .ensures) in
     let grown = k .1 .grown _ (c .before .before .before .before .before .before .r .given .1) in (
       λ ts room p ms a once fits.
-          let x = finds-list _ _ (c .before .before .before .before .before .before .before .before .before .before .before .before .before .before .before .before .list-field .ensures .0 (s .pre .2) _ (once .slot _ (name-small timed (c .before .before .before .before .before .before .before .before .before .before .before .before .before .before .before .before .before .before .before .before .before .name-of .ensures) (omega arith) (omega arith)))) (c .before .before .before .before .before .before .before .before .before .before .before .before .before .before .f .given .1) in
+          let x = finds-list _ _ (c .before .before .before .before .before .before .before .before .before .before .before .before .before .before .before .before .list-field .ensures .0 (s .pre .2) _ (once .slot _ (name-small timed (c .before .before .before .before .before .before .before .before .before .before .before .before .before .before .before .before .before .before .before .before .before .before .name-of .ensures) (omega arith) (omega arith)))) (c .before .before .before .before .before .before .before .before .before .before .before .before .before .before .f .given .1) in
           let e = x .outcome (any-objects (anApplication timed)) (leftOf room (more (s .args .used))) in
           let d = did-as e (visited-done _ _ _ _ _ _ _ (k .0 room (x .place) (x .inner) (x .stands) fits) (c .before .before .before .before .before .before .r .given .1)) in
           rw (kept .0, object-at a)
           (above-did d _ (words _ _ 0 0 0 0)
-          (body-opens (applications-known ts timed t (c .before .before .before .before .before .before .before .before .before .before .before .before .before .before .before .before .before .before .before .before .before .name-of .ensures)) _ (entriesOf ms) room (s .args .used) (s .pre .1) _ (c .before .before .before .before .before .before .before .before .before .before .before .before .before .before .before .before .before .before .before .unknown-name .ensures (applications-row timed (c .before .before .before .before .before .before .before .before .before .before .before .before .before .before .before .before .before .before .before .before .before .name-of .ensures)) p ms a once) (c .before .before .before .before .before .before .before .before .before .before .before .before .before .before .before .before .before .enum-told .given .1)
-          ∙ applications-fields _ (entriesOf ms) (leftOf room (more (s .args .used))) ts timed t (c .before .before .before .before .before .before .before .before .before .before .before .before .before .before .before .before .before .before .before .before .before .name-of .ensures)
+          (body-opens (applications-known ts timed t (c .before .before .before .before .before .before .before .before .before .before .before .before .before .before .before .before .before .before .before .before .before .before .name-of .ensures)) _ (entriesOf ms) room (s .args .used) (s .pre .1) _ (c .before .before .before .before .before .before .before .before .before .before .before .before .before .before .before .before .before .before .before .unknown-name .ensures (applications-row timed (c .before .before .before .before .before .before .before .before .before .before .before .before .before .before .before .before .before .before .before .before .before .before .name-of .ensures)) p ms a once) (c .before .before .before .before .before .before .before .before .before .before .before .before .before .before .before .before .before .enum-told .given .1)
+          ∙ applications-fields _ (entriesOf ms) (leftOf room (more (s .args .used))) ts timed t (c .before .before .before .before .before .before .before .before .before .before .before .before .before .before .before .before .before .before .before .before .before .before .name-of .ensures)
           ∙ done-bind _ (d .outcome))
           (applications-rows timed (d .value) t (counted (s .args .used) d (length (d .value) + length (d .value)) (d .row) (applications-length timed (d .value))) (d .row))
           (kept .1)),
