@@ -320,6 +320,14 @@ static std::string repeated(std::string head, const char *part, std::string tail
   if (head.back() == ',') head.pop_back();
   return head + tail;
 }
+/* Elements of all kinds in no order, so that no processor learns it. */
+static std::string mixed(std::string head, const std::string &tail) {
+  const char *const parts[] = {"[],", "\"\",", "1,", "\"a\",", "[[]],", "\"ab\",", "11,", "null,"};
+  uint64_t x = 1;
+  while (head.size() + 6 + tail.size() <= 32768) head += parts[(x = x * 6364136223846793005u + 1442695040888963407u) >> 61];
+  head.pop_back();
+  return head + tail;
+}
 static std::string many_names(const char *form) {
   std::string s = "{";
   char b[80];
@@ -342,13 +350,15 @@ int main() {
     if (!by_posology(p) || !by_cjson(p) || !by_rapidjson(p) || !by_simdjson(p)) return std::puts("a plan was refused"), 1;
     std::printf("%-8zu %9.0f ns %9.0f ns %9.0f ns %9.0f ns\n", p.size(), best(by_posology, p), best(by_cjson, p), best(by_rapidjson, p), best(by_simdjson, p));
   }
+  const std::string deep = R"({"unit":"a","po":{"t":5,"sos":[{"t":1,"du":1,"duU":1,"po":{"t":5,"sos":[{"t":1,"du":1,"duU":1,"po":{"t":5,"sos":[{"t":1,"du":1,"duU":1,"po":{"t":4,"cyDuU":6,"cyDu":1,"tdo":{"t":5,"doms":[)", deep_end = R"(],"tdo":{"t":2,"ts":[]}}}}]}}]}}]}})";
   struct { const char *name; std::string text; } worst[] = {
       {"thousands of unknown names", many_names("\"%c%c%c\":1,")},
       {"long names, a common prefix", many_names("\"aaaaaaaaaaaaaaaaaaaaaaaa%c%c%c\":1,")},
       {"blanks only", std::string(32768, ' ')},
       {"escapes only", repeated(R"({"po":{"t":2,"text":")", "\\u0041", R"("},"unit":"a"})")},
       {"a long list", repeated(R"({"po":{"t":1,"ds":[)", "1,", R"(]},"unit":"a"})")},
-      {"deep, and a long list", repeated(R"({"unit":"a","po":{"t":5,"sos":[{"t":1,"du":1,"duU":1,"po":{"t":5,"sos":[{"t":1,"du":1,"duU":1,"po":{"t":5,"sos":[{"t":1,"du":1,"duU":1,"po":{"t":4,"cyDuU":6,"cyDu":1,"tdo":{"t":5,"doms":[)", "1,", R"(],"tdo":{"t":2,"ts":[]}}}}]}}]}}]}})")},
+      {"deep, and a long list", repeated(deep, "1,", deep_end)},
+      {"deep, and a mixed list", mixed(deep, deep_end)},
       {"long strings", repeated(R"({"po":{"t":2,"text":")", "abcdefgh", R"("},"unit":"a"})")}};
   for (auto &w : worst) std::printf("%-30s %8zu bytes %10.1f us\n", w.name, w.text.size(), best(by_posology, w.text) / 1000);
 }
