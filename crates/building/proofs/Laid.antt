@@ -19,8 +19,8 @@ use Rattle.document.specs.Valid.{timedRecords, detailRecords, objectRecords, ob
 use Rattle.document.specs.Words.{Words, words, recordWords, row, rows, allWords}
 use Rattle.building.specs.Built.{laidRow, laidRows, laidPiece, countOf, stringsLaid}
 use Rattle.visits.specs.Visiting.{DetailRows, ObjectRows, ObjectsRows}
-use Rattle.heads.specs.declared.head.Piece.{Piece}
-use Rattle.heads.specs.declared.head.HeadRead.{HeadRead}
+use Rattle.records.specs.declared.read.Piece.{Piece}
+use Rattle.records.specs.declared.read.HeadRead.{HeadRead}
 use Rattle.document.proofs.Untables.{joined-append, object-append}
 
 -- One more, behind the others.

@@ -14,9 +14,9 @@ use Rattle.document.specs.Table.{lengthOf}
 use Rattle.document.specs.Valid.{detailRecords, detailStrings, given, joined, strings}
 use Rattle.strings.specs.Strings.{buffered}
 use Rattle.building.specs.Built.{laidRows, laidPiece, stringsLaid}
-use Rattle.heads.specs.Heads.{PieceOf, Holds}
-use Rattle.heads.specs.declared.head.Piece.{Piece}
-use Rattle.heads.specs.declared.head.HeadRead.{HeadRead}
+use Rattle.visits.specs.Holding.{PieceOf, Holds}
+use Rattle.records.specs.declared.read.Piece.{Piece}
+use Rattle.records.specs.declared.read.HeadRead.{HeadRead}
 use Rattle.json.proofs.Stores.{sets-append}
 use Rattle.document.proofs.Untables.{joined-append}
 use Rattle.document.proofs.Strings.{given-length, strings-parts}

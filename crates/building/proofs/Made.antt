@@ -13,9 +13,9 @@ use Rattle.document.specs.Table.{noRecord, textCell, lengthOf, filled, headOf, 
 use Rattle.document.specs.Valid.{detailRecords, detailStrings, valid}
 use Rattle.document.specs.declared.table.Record.{Record}
 use Rattle.building.specs.Built.{pieceCell, headCells, recordsOf, countOf, built}
-use Rattle.heads.specs.Heads.{PieceOf, Holds}
-use Rattle.heads.specs.declared.head.Piece.{Piece}
-use Rattle.heads.specs.declared.head.HeadRead.{HeadRead}
+use Rattle.visits.specs.Holding.{PieceOf, Holds}
+use Rattle.records.specs.declared.read.Piece.{Piece}
+use Rattle.records.specs.declared.read.HeadRead.{HeadRead}
 use Rattle.kinds.specs.Kinds.{recordIn, groups, recordsIn}
 use Rattle.kinds.proofs.Fill.{groups-length}
 use Rattle.document.proofs.ValidParts.{valid-parts}

@@ -11,8 +11,8 @@ use Rattle.document.specs.declared.table.Head.{Head}
 use Rattle.document.specs.declared.table.Text.{Text}
 use Rattle.document.specs.declared.table.Table.{Table}
 use Rattle.kinds.specs.Kinds.{recordIn, groups, atMost, recordsIn}
-use Rattle.heads.specs.declared.head.Piece.{Piece}
-use Rattle.heads.specs.declared.head.HeadRead.{HeadRead}
+use Rattle.records.specs.declared.read.Piece.{Piece}
+use Rattle.records.specs.declared.read.HeadRead.{HeadRead}
 
 -- The records of the words, six each.
 abbrev pub recordsOf : ℕ → List ℕ → List Record

@@ -26,8 +26,8 @@ use Rattle.heads.specs.Heads.{HeadReads}
 use Rattle.heads.specs.HeadRows.{stringRows, poRows, Begun, ReadsStrings}
 use Rattle.fields.specs.declared.field.Field.{Field}
 use Rattle.fields.specs.declared.field.Field.the-variants as F
-use Rattle.heads.specs.declared.head.Piece.{Piece}
-use Rattle.heads.specs.declared.head.HeadRead.{HeadRead}
+use Rattle.records.specs.declared.read.Piece.{Piece}
+use Rattle.records.specs.declared.read.HeadRead.{HeadRead}
 use Rattle.records.specs.declared.rows.Used.{Used}
 use Rattle.records.specs.declared.rows.Visit.{Visit}
 use Rattle.records.specs.declared.rows.Visit.the-variants as Vs

@@ -28,7 +28,7 @@ use Rattle.fields.specs.declared.field.Field.{Field}
 use Rattle.fields.specs.declared.field.Field.the-variants as F
 use Rattle.fields.specs.declared.field.DateField.{DateField}
 use Rattle.fields.specs.declared.field.DateField.the-variants as D
-use Rattle.heads.specs.declared.head.HeadRead.{HeadRead}
+use Rattle.records.specs.declared.read.HeadRead.{HeadRead}
 use Rattle.opening.specs.declared.opened.Opened.{Opened}
 use Rattle.visits.proofs.Bodies.{object-at, refuses-as, refuses-bind, done-bind}
 use Rattle.heads.proofs.HeadDetail.{head-as}

@@ -19,12 +19,13 @@ use Rattle.document.specs.At.{Slot}
 use Rattle.names.specs.Names.{Once, nameAt}
 use Rattle.fields.specs.Fields.{Refuses, ReadsOptionalText}
 use Rattle.visits.specs.Visiting.{leftOf}
-use Rattle.heads.specs.Heads.{PieceOf, HeadReads, RefusedAt}
+use Rattle.visits.specs.Holding.{PieceOf}
+use Rattle.heads.specs.Heads.{HeadReads, RefusedAt}
 use Rattle.heads.specs.HeadRows.{moaRows, roaRows, instrRows, stringRows, unitRead, ReadsUnit, pieceAt, Begun}
 use Rattle.fields.specs.declared.field.Worded.{Worded}
 use Rattle.fields.specs.declared.field.Worded.the-variants as W
-use Rattle.heads.specs.declared.head.Piece.{Piece}
-use Rattle.heads.specs.declared.head.HeadRead.{HeadRead}
+use Rattle.records.specs.declared.read.Piece.{Piece}
+use Rattle.records.specs.declared.read.HeadRead.{HeadRead}
 use Rattle.document.proofs.Strings.{strings-size}
 use Rattle.visits.proofs.Bodies.{refuses-as, refuses-bind, done-bind}
 use Rattle.heads.proofs.Pieces.{left, Took, took, unit-row}

@@ -19,7 +19,7 @@ use Rattle.document.specs.Table.{lengthOf}
 use Rattle.document.specs.Visit.{Left, roomLess, Outcome, done, refuse, bind, present, Value, needed, fields}
 use Rattle.fields.specs.Fields.{Perhaps, ReadsText, ReadsOptionalText}
 use Rattle.visits.specs.Visiting.{leftOf}
-use Rattle.heads.specs.Heads.{PieceOf}
+use Rattle.visits.specs.Holding.{PieceOf}
 use Rattle.heads.specs.HeadRows.{unitRead, ReadsUnit, pieceAt}
 use Rattle.fields.specs.declared.field.Worded.{Worded}
 use Rattle.fields.specs.declared.field.Worded.the-variants as W

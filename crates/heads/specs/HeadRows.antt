@@ -23,8 +23,8 @@ use Rattle.visits.specs.Detail.{noneUsed}
 use Rattle.heads.specs.Heads.{HeadReads}
 use Rattle.fields.specs.declared.field.Worded.{Worded}
 use Rattle.fields.specs.declared.field.Worded.the-variants as W
-use Rattle.heads.specs.declared.head.Piece.{Piece}
-use Rattle.heads.specs.declared.head.HeadRead.{HeadRead}
+use Rattle.records.specs.declared.read.Piece.{Piece}
+use Rattle.records.specs.declared.read.HeadRead.{HeadRead}
 
 -- Behind unit, applInstr and roa; and so on forward.
 module _ (from to : Option P.Date) (reserve : Option Bool) (po : P.Detail) (meal : Option ℕ) where

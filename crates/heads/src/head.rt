@@ -18,6 +18,8 @@ use names::ROA;
 use names::UNIT;
 use names::Unknown;
 use opening::opened;
+use records::read::HeadRead;
+use records::read::Piece;
 use records::rows::Used;
 use records::rows::Visit;
 use visits::detail;
@@ -40,29 +42,6 @@ const POSOLOGY: [usize; 9] = [
     ROA,
     MOA,
 ];
-
-// A string of the head: its quote in the text, and its bytes in the buffer to come.
-pub struct Piece {
-    pub quote: usize,
-    pub start: usize,
-    pub len: usize,
-}
-
-// A head as it is read, or the refusal.
-pub struct HeadRead {
-    pub refused: bool,
-    pub number: u8,
-    pub place: usize,
-    pub from: Date,
-    pub to: Date,
-    pub reserve: bool,
-    pub meal: u8,
-    pub unit: Piece,
-    pub instructions: Piece,
-    pub roa: Piece,
-    pub moa: Piece,
-    pub used: Used,
-}
 
 fn no_piece() -> Piece
     ensures { λ r. ⌜ r ≡ noPiece ⌝ }

@@ -5,7 +5,7 @@ use mathlib.Core.List.{List, _∷_}
 use Rattle.document.specs.Words.{allWords, rows, headWords, tableWords}
 use Rattle.document.specs.declared.table.Head.{Head}
 use Rattle.kinds.specs.Kinds.{atMost, recordsIn}
-use Rattle.heads.specs.declared.head.HeadRead.{HeadRead}
+use Rattle.records.specs.declared.read.HeadRead.{HeadRead}
 use Rattle.eights.specs.Eights.{allBytes}
 use Rattle.area.specs.Area.{areaOf}
 use Rattle.building.specs.Built.{headCells, built}

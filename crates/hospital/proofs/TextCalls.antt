@@ -12,7 +12,7 @@ use Rattle.document.specs.declared.table.Answer.{Answer}
 use Rattle.document.specs.declared.table.Answer.the-variants as A
 use Rattle.document.specs.declared.table.Reading.{Reading}
 use Rattle.area.specs.Area.{areaBytes, areaOf}
-use Rattle.heads.specs.declared.head.HeadRead.{HeadRead}
+use Rattle.records.specs.declared.read.HeadRead.{HeadRead}
 use Rattle.building.specs.Built.{built}
 use Rattle.posology.specs.Reader.{readingOf, ReadsWords}
 use Rattle.posology.proofs.Answers.{made-refused, made-taken}

@@ -1,7 +1,7 @@
 // What was read, laid into the lent area without a table between them.
 use document::table::NextAnswer;
 use document::table::WORDS;
-use heads::head::HeadRead;
+use records::read::HeadRead;
 ghost use mathlib.Core.Path.{_≡_};
 ghost use mathlib.Core.Bool.{cond};
 ghost use lib.Dec.{eqb};

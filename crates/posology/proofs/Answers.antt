@@ -23,7 +23,7 @@ use Rattle.texts.proofs.Onward.{readOn, read-on, one-walked}
 use Rattle.texts.proofs.Prefixes.{place-of}
 use Rattle.visits.specs.Visiting.{leftOf}
 use Rattle.heads.specs.Heads.{HeadDone, HeadReads, ReadsHead, RefusedAt}
-use Rattle.heads.specs.declared.head.HeadRead.{HeadRead}
+use Rattle.records.specs.declared.read.HeadRead.{HeadRead}
 use Rattle.building.specs.Built.{built, stringsLaid}
 use Rattle.building.proofs.Made.{table-made}
 use Rattle.building.proofs.Lays.{strings-laid}

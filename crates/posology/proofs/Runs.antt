@@ -11,7 +11,7 @@ use Rattle.document.specs.declared.table.Reading.{Reading}
 use Rattle.document.specs.declared.table.NextAnswer.{NextAnswer}
 use Rattle.document.specs.declared.table.NextAnswer.the-variants as N
 use Rattle.document.specs.declared.table.Table.{Table}
-use Rattle.heads.specs.declared.head.HeadRead.{HeadRead}
+use Rattle.records.specs.declared.read.HeadRead.{HeadRead}
 use Rattle.building.specs.Built.{built}
 use Rattle.texts.specs.Texts.{firstText}
 use Rattle.texts.specs.declared.FirstText.{FirstText}

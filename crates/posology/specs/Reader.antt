@@ -11,7 +11,7 @@ use Rattle.document.specs.Table.{emptyTable}
 use Rattle.document.specs.Valid.{roomOf}
 use Rattle.document.specs.declared.table.Answer.the-variants as A
 use Rattle.document.specs.declared.table.Reading.{Reading}
-use Rattle.heads.specs.declared.head.HeadRead.{HeadRead}
+use Rattle.records.specs.declared.read.HeadRead.{HeadRead}
 use Rattle.building.specs.Built.{built}
 
 -- The reading that a head and the words of its records make.

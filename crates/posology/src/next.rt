@@ -4,7 +4,7 @@ use document::table::NextAnswer;
 use document::table::NextReading;
 use document::table::WORDS;
 use heads::head;
-use heads::head::HeadRead;
+use records::read::HeadRead;
 use texts::FirstText;
 ghost use mathlib.Core.Path.{_≡_};
 ghost use mathlib.Core.List.{List};

@@ -10,7 +10,7 @@ use document::table::Table;
 use document::table::Text;
 use document::table::WORDS;
 use heads::head;
-use heads::head::HeadRead;
+use records::read::HeadRead;
 use texts::OneText;
 ghost use mathlib.Core.Path.{_≡_};
 ghost use lib.ListN.{length};

@@ -1,3 +1,4 @@
-// The records as they are read: which objects may stand under which, and each object's six words.
+// The records and the head as they are read: which objects may stand under which, and each object's six words.
 pub mod allowed;
+pub mod read;
 pub mod rows;

@@ -3,3 +3,4 @@ pub mod Kept
 pub mod Room
 pub mod Fours
 pub mod Detail
+pub mod Holding
