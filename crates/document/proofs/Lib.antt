@@ -1,6 +1,5 @@
 -- The demands, the examples, and the laws that they rest on.
 pub mod Examples
-pub mod Leaves
 pub mod Good
 pub mod Same
 pub mod Reorder
@@ -40,6 +39,3 @@ pub mod Strings
 pub mod Untabled
 pub mod Tables
 mod Calendar
-pub mod Demand1
-pub mod Demand2
-pub mod Demand3

@@ -1,14 +1,12 @@
 -- Plain texts read back, alone and one behind the other.
-use mathlib.Core.Path.{_≡_, ap, sym, _∙_}
-use mathlib.Core.List.{List, [], _∷_}
-use mathlib.Core.Bool.{Bool, true}
-use mathlib.Core.Option.{some}
-use Prim.Native.Nat.{ℕ, zero, suc, _+_, _≤_}
+use mathlib.Core.Path.{_≡_, ap, _∙_}
+use mathlib.Core.List.{List, []}
+use mathlib.Core.Bool.{true}
+use Prim.Native.Nat.{ℕ, _≤_}
 use native.Mathlib.Omega.{arith}
-use lib.ListN.{length, drop}
+use lib.ListN.{drop}
 use Rattle.json.specs.Tree.{placeIn, Tree, object}
 use Rattle.json.specs.Grammar as G
-use Rattle.json.specs.Rows.{choose}
 use Rattle.spelling.specs.Depth.{depth}
 use Rattle.spelling.specs.Leading.{Leading, leading}
 use Rattle.spelling.proofs.Trees.{leading-text}
@@ -16,12 +14,11 @@ use Rattle.spelling.proofs.Spells as J
 use Rattle.document.specs.Posology.{Posology}
 use Rattle.document.specs.Same.{Reordered, an-object}
 use Rattle.document.specs.Visit.{Left, done, visit}
-use Rattle.document.specs.Valid.{Valid, Fits, valid, isUse}
+use Rattle.document.specs.Valid.{Valid, Fits, valid}
 use Rattle.document.specs.Spell.{spell}
 use Rattle.document.specs.Plain.{plain, plainThen, plainTree, membersOf, headSlots}
-use Rattle.document.specs.Answer.{taken, read, textAtMost, ReadNext, takenTo, blankTo, refusedAt, readNext}
+use Rattle.document.specs.Answer.{taken, read, textAtMost, takenTo, readNext}
 use Rattle.document.specs.Write.{greatestRoom}
-use Rattle.document.specs.Run.{plainTexts, andThen, onward, readAll}
 use Rattle.document.proofs.Accepts.{means-taken}
 use Rattle.document.proofs.Reorder.{visit-reordered}
 use Rattle.document.proofs.PlainHead.{plain-means}
@@ -76,30 +73,3 @@ plain-next purpose room p k v f g =
     let t = plain-text purpose p k (v .1) f in
     let m = plain-taken purpose room p k (v .1) g t in
     (placeIn (plainThen p k) k, taken-next purpose room (plainThen p k) (t .tree) k p (m .0) (v .0) (t .spells) (t .shallow) (t .short) (m .1), behind-leading (t .spells) (t .shallow))
-
--- All of a list are valid and their strings fit.
-pub data AllValid (purpose room : ℕ) : List Posology → Type 0 where
-  no-posology : AllValid purpose room []
-  next-posology : {p : Posology} {ps : List Posology} → Valid purpose p → Fits greatestRoom p → Fits room p → AllValid purpose room ps → AllValid purpose room (p ∷ ps)
-
-nothing-left : (purpose room : ℕ) → isUse purpose ≡ true → readNext purpose room [] ≡ blankTo 0
-unfolding readNext
-nothing-left purpose room u = ap (λ (b : Bool). choose b (λ _. blankTo 0) λ _. refusedAt 17 0) u
-
--- With steps to spare, the same list comes back.
-pub texts-read : (purpose room : ℕ) (ps : List Posology) (n : ℕ) → isUse purpose ≡ true → AllValid purpose room ps → length ps ≤ n → readAll (suc n) purpose room (plainTexts ps) ≡ some ps
-unfolding readAll plainTexts
-texts-read purpose room [] n u no-posology h = ap (λ (r : ReadNext). onward r (λ e. readAll n purpose room (drop e []))) (nothing-left purpose room u)
-texts-read purpose room (p ∷ ps) zero u (next-posology v f g w) h = absurd (omega arith)
-texts-read purpose room (p ∷ ps) (suc n) u (next-posology v f g w) h =
-    let a = plain-next purpose room p (plainTexts ps) v f g in
-    ap (λ (r : ReadNext). onward r (λ e. readAll (suc n) purpose room (drop e (plainThen p (plainTexts ps))))) (a .1)
-    ∙ ap (λ (s : List ℕ). andThen p (readAll (suc n) purpose room s)) (a .2)
-    ∙ ap (andThen p) (texts-read purpose room ps n u w (omega arith))
-
-pub texts-one : (purpose room : ℕ) (ps qs : List Posology) → isUse purpose ≡ true → AllValid purpose room ps → AllValid purpose room qs → plainTexts ps ≡ plainTexts qs → ps ≡ qs
-texts-one purpose room ps qs u v w e =
-    let a = texts-read purpose room ps (length ps + length qs) u v (omega arith) in
-    let b = texts-read purpose room qs (length ps + length qs) u w (omega arith) in
-    let c : some ps ≡ some qs = sym a ∙ ap (λ (s : List ℕ). readAll (suc (length ps + length qs)) purpose room s) e ∙ b in
-    cc c

@@ -16,4 +16,3 @@ pub mod Untable
 pub mod Write
 pub mod Spells
 pub mod Same
-pub mod Run

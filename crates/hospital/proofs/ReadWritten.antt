@@ -23,7 +23,7 @@ use Rattle.document.proofs.Accepts.{taken-means}
 use Rattle.document.proofs.NextTexts.{next-taken}
 use Rattle.document.proofs.Sound.{Utf8Tree}
 use Rattle.document.proofs.Utf8Texts.{value-utf8}
-use Rattle.document.proofs.Demand2.{accepted-iff-spells, plain-is-one}
+use Rattle.demands.proofs.Demand2.{accepted-iff-spells, plain-is-one}
 use Rattle.area.specs.Area.{areaBytes, areaOf}
 use Rattle.held.proofs.AreaBack.{area-back, area-length, is-area}
 use Rattle.hospital.specs.Calls.{called, areaAfter, calledNext, nextAreaAfter, calledWrite}

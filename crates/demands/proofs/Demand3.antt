@@ -8,16 +8,16 @@ use lib.ListN.{length, drop}
 use Rattle.json.specs.Tree.{placeIn, Tree}
 use Rattle.json.specs.Grammar.{Text}
 use Rattle.spelling.specs.Leading.{Leading}
 use Rattle.document.specs.Posology.{Posology}
 use Rattle.document.specs.Valid.{isUse}
 use Rattle.document.specs.Same.{Reordered, unplaced}
 use Rattle.document.specs.Answer.{taken, read, textAtMost, takenTo, readNext}
 use Rattle.document.proofs.Spelled.{reordered-taken}
 use native.Mathlib.Omega.{arith}
 use Rattle.document.proofs.Moves.{moved}
-use Rattle.document.proofs.PlainTexts.{AllValid, texts-read, texts-one}
+use Rattle.demands.proofs.PlainRuns.{texts-read, texts-one}
 use Rattle.document.proofs.NextTexts.{reordered-next}
-use Rattle.document.specs.Run.{plainTexts, readAll}
+use Rattle.demands.specs.Runs.{plainTexts, readAll, AllValid}
 
 -- Plain texts written one behind the other are read back, one by one, to the list that was written.
 pub run-comes-back : (purpose room : ℕ) (ps : List Posology) → isUse purpose ≡ true → AllValid purpose room ps → readAll (suc (length ps)) purpose room (plainTexts ps) ≡ some ps

@@ -3,9 +3,11 @@ use mathlib.Core.List.{List, [], _∷_}
 use mathlib.Core.Option.{Option, none, some}
 use Prim.Native.Nat.{ℕ, zero, suc}
 use lib.ListN.{drop}
 use Rattle.document.specs.Posology.{Posology}
 use Rattle.document.specs.Plain.{plainThen}
+use Rattle.document.specs.Valid.{Valid, Fits}
+use Rattle.document.specs.Write.{greatestRoom}
 use Rattle.document.specs.Answer.{ReadNext, takenTo, blankTo, refusedAt, readNext}
 
 unfoldable pub plainTexts : List Posology → List ℕ
 unfolding plainThen
@@ -26,3 +28,8 @@ unfoldable pub readAll : ℕ → ℕ → ℕ → List ℕ → Option (List Posol
 unfolding readNext
 readAll zero purpose room run = none
 readAll (suc n) purpose room run = onward (readNext purpose room run) (λ e. readAll n purpose room (drop e run))
+
+-- All of a list are valid and their strings fit.
+pub data AllValid (purpose room : ℕ) : List Posology → Type 0 where
+  no-posology : AllValid purpose room []
+  next-posology : {p : Posology} {ps : List Posology} → Valid purpose p → Fits greatestRoom p → Fits room p → AllValid purpose room ps → AllValid purpose room (p ∷ ps)

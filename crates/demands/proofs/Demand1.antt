@@ -3,18 +3,18 @@ use mathlib.Core.Path.{_≡_, sym, _∙_}
 use mathlib.Core.List.{List}
 use Prim.Native.Nat.{ℕ}
 use lib.ListN.{length}
 use Rattle.document.specs.Valid.{roomOf}
 use Rattle.document.specs.Table.{emptyTable}
 use Rattle.document.specs.Answer.{Reads, ReadsNext, read, readNext}
 use Rattle.document.specs.Write.{Writes, write}
-use Rattle.document.proofs.Leaves.{refusal, next-refusal, next-blank, write-refusal}
+use Rattle.demands.proofs.Leaves.{refusal, next-refusal, next-blank, write-refusal}
 use Rattle.document.specs.declared.table.Table.{Table}
 use Rattle.document.specs.declared.table.Reading.{Reading}
 use Rattle.document.specs.declared.table.Answer.the-variants as A
 use Rattle.document.specs.declared.table.NextReading.{NextReading}
 use Rattle.document.specs.declared.table.NextAnswer.the-variants as N
 use Rattle.document.specs.declared.table.Writing.{Writing}
 use Rattle.document.specs.declared.table.Writing.the-variants.{Refused}
 
 -- "any two answers allowed by it are equal": result, place and each byte of the lent buffers.
 pub determined-read : {purpose : ℕ} {text before after after′ : List ℕ} {r r′ : Reading} → Reads purpose text before r after → Reads purpose text before r′ after′ → (r ≡ r′) × (after ≡ after′)
