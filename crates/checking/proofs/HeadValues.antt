@@ -38,14 +38,14 @@ cell-meal m = go (eqb m 0) refl
     go true e = sym (eqb-true m 0 e)
     go false e = refl
 
-pub valid-meal : (m : ℕ) → m ≤ 6 → ifGiven isMeal (mealOf m) ≡ true
+pub valid-meal : (m : ℕ) → m ≤ mealCodes → ifGiven isMeal (mealOf m) ≡ true
 valid-meal m h = go (eqb m 0) refl
   where
     go : (b : Bool) → eqb m 0 ≡ b → ifGiven isMeal (cond {A = Option ℕ} b none (some m)) ≡ true
     go true e = refl
     go false e = let f = eqb-false m 0 e in and-both (le-leb 1 m (omega arith)) (le-leb m 6 h)
 
-meal-most : (o : Option ℕ) → ifGiven isMeal o ≡ true → Option·getD o 0 ≤ 6
+meal-most : (o : Option ℕ) → ifGiven isMeal o ≡ true → Option·getD o 0 ≤ mealCodes
 meal-most none h = omega arith
 meal-most (some m) h = in-range 1 m mealCodes h .1
 

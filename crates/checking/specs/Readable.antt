@@ -4,6 +4,7 @@ use mathlib.Core.List.{List}
 use mathlib.Core.Bool.{Bool, true, _&&_}
 use Prim.Native.Nat.{ℕ, _+_, _*_, _≤_}
 use Rattle.document.specs.Date.{isDate, inOrder, isSecond, isZone}
+use Rattle.document.specs.Schema.{mealCodes}
 use Rattle.document.specs.Valid.{ifGiven}
 use Rattle.document.specs.Untable.{dateOf, zoneOf}
 use Rattle.document.specs.declared.table.Text.{Text}
@@ -32,7 +33,7 @@ pub record HeadRight (h : Head) (purpose : ℕ) : Type 0 where
   pub from : ifGiven isDate (dateOf (h .from)) ≡ true
   pub to : ifGiven isDate (dateOf (h .to)) ≡ true
   pub ordered : inOrder (dateOf (h .from)) (dateOf (h .to)) ≡ true
-  pub meal : h .meal ≤ 6
+  pub meal : h .meal ≤ mealCodes
   pub unit : (purpose ≡ 3 → ⊥) → 1 ≤ h .unit .len
 
 pub record LaidAt (ws buffer : List ℕ) (h : Head) (count text : ℕ) : Type 0 where

@@ -4,6 +4,7 @@ use crate::check::Checked;
 use document::dates;
 use document::table::Date;
 use document::table::Head;
+use document::table::MEAL_CODES;
 use document::table::RECORDS;
 use document::table::Table;
 use document::table::Text;
@@ -62,7 +63,7 @@ fn head_right(h: Head, purpose: u64) -> bool
     let from = h.from;
     let to = h.to;
     let unit = h.unit;
-    if 6 < h.meal {
+    if MEAL_CODES < h.meal {
         return false;
     }
     if is_date(from) {

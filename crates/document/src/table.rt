@@ -5,6 +5,9 @@ pub const RECORDS: usize = 64;
 // Six a record: its tag, the records below it, four values.
 pub const WORDS: usize = 384;
 
+// The greatest meal code (document 01, "Objects": "relMeal? 1-6"); `mealCodes` in specs/Schema.antt.
+pub const MEAL_CODES: u8 = 6;
+
 // A string's bytes in the text buffer; both are 0 where it is absent.
 pub struct Text {
     pub start: usize,

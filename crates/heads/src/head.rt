@@ -1,6 +1,7 @@
 // The head of a posology (document 01, "Objects": Posology).
 use document::dates;
 use document::table::Date;
+use document::table::MEAL_CODES;
 use document::table::WORDS;
 use fields::field;
 use fields::field::DateField;
@@ -42,6 +43,8 @@ const POSOLOGY: [usize; 9] = [
     ROA,
     MOA,
 ];
+
+const MEALS: u64 = MEAL_CODES as u64;
 
 fn no_piece() -> Piece
     ensures { λ r. ⌜ r ≡ noPiece ⌝ }
@@ -213,7 +216,7 @@ fn with_detail(
     let Visit::Done(used) = r else {
         return up_visit(r);
     };
-    let f = field::optional_integer(text, slots[REL_MEAL], 1, 6, 0);
+    let f = field::optional_integer(text, slots[REL_MEAL], 1, MEALS, 0);
     let Field::Is(meal) = f else {
         return up_field(f);
     };

@@ -5,13 +5,17 @@ use mathlib.Core.List.{List}
 use lib.ListN.{length, drop, length-drop}
 use native.Mathlib.Decide.{decLe}
 use native.Mathlib.Omega.{arith}
-use Rattle.json.specs.Tree.{Place, Moves}
+use Rattle.json.specs.Tree.{Place, placeIn, Moves}
 use Rattle.json.specs.Part.{Stop, Stops}
 use Rattle.json.specs.declared.part.Part.{Part}
 use Rattle.json.specs.declared.part.Part.the-variants.{Past, Torn}
 
 pub place-one : (text : List ℕ) (a b : ℕ) → a ≤ length text → b ≤ length text → drop a text ≡ drop b text → a ≡ b
 place-one text a b h l e = omega (arith, length-drop a text, length-drop b text, ap length e)
+
+-- The place of what is left from p on is p.
+pub place-of : (text : List ℕ) (p : ℕ) → p ≤ length text → placeIn text (drop p text) ≡ p
+place-of text p h = omega (arith, length-drop p text)
 
 -- blanks_end, and what moves about a text
 pub moves-one : {f : Place → Place} {text : List ℕ} {at r q : ℕ} → Moves f text at r → Moves f text at q → r ≡ q

@@ -9,6 +9,7 @@ use Rattle.json.specs.Tree.{Tree}
 use Rattle.document.specs.Bytes.{bytes}
 use Rattle.document.specs.Posology.{Date}
 use Rattle.document.specs.Date.{isDate}
+use Rattle.document.specs.Schema.{mealCodes}
 use Rattle.document.specs.Valid.{ifGiven}
 use Rattle.document.specs.Untable.{dateOf, mealOf, textOf}
 use Rattle.document.specs.Spell.{spell}
@@ -56,7 +57,7 @@ Within buffer t = t .start + t .len ≤ length buffer
 pub record Writable (buffer : List ℕ) (h : Head) : Type 0 where
   pub from : ifGiven isDate (dateOf (h .from)) ≡ true
   pub to : ifGiven isDate (dateOf (h .to)) ≡ true
-  pub meal : h .meal ≤ 6
+  pub meal : h .meal ≤ mealCodes
   pub unit : Within buffer (h .unit)
   pub instructions : Within buffer (h .instructions)
   pub roa : Within buffer (h .roa)

@@ -20,7 +20,7 @@ use Rattle.texts.specs.Texts.{oneText}
 use Rattle.texts.specs.declared.OneText.{OneText}
 use Rattle.texts.specs.declared.OneText.the-variants as O
 use Rattle.texts.proofs.Onward.{readOn, read-on, one-walked}
-use Rattle.texts.proofs.Prefixes.{place-of}
+use Rattle.json.proofs.Places.{place-of}
 use Rattle.visits.specs.Visiting.{leftOf}
 use Rattle.heads.specs.Heads.{HeadDone, HeadReads, ReadsHead, RefusedAt}
 use Rattle.records.specs.declared.read.HeadRead.{HeadRead}

@@ -54,7 +54,7 @@ fn told(line: &[u8], strings: &mut [u8], out: &mut [u8]) {
 }
 
 // Tells the lines before the first empty one, and answers where the rest begins.
-pub fn lines(given: &[u8], strings: &mut [u8], out: &mut [u8]) -> usize {
+pub(crate) fn lines(given: &[u8], strings: &mut [u8], out: &mut [u8]) -> usize {
     let mut from = 0;
     while from < given.len() {
         let end = until(given, from, b'\n');

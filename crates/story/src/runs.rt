@@ -60,7 +60,7 @@ fn once_more(word: &[u8], run: &[u8], written: &[u8], strings: &mut [u8], out: &
     io::write_all(1, b"not the same\n");
 }
 
-pub fn compare(given: &[u8], strings: &mut [u8], out: &mut [u8], again: &mut [u8]) {
+pub(crate) fn compare(given: &[u8], strings: &mut [u8], out: &mut [u8], again: &mut [u8]) {
     let g = all(b"written: ", given, strings, out);
     let written = part(out, 0, g.length);
     once_more(b"read back: ", written, written, strings, again);

@@ -10,6 +10,7 @@ use lib.Dec.{leb, ltb}
 use borrow.Author.Tests.{ltb-true, ltb-false, leb-true, leb-false, le-leb, lt-leb, lt-ltb, le-ltb}
 use Rattle.json.specs.Tree.{placeIn}
 use Rattle.json.specs.Walk.{Frame, Mode, top, Next, wrong, deep, ended, go, onto, step, walk, Walked, end, refused2, refused3, firstObject}
+use Rattle.json.proofs.Places.{place-of}
 use Rattle.document.specs.Answer.{textAtMost}
 use Rattle.texts.specs.Texts.{notEnded, firstWalked}
 use Rattle.texts.specs.declared.FirstText.the-variants as F
@@ -89,9 +90,6 @@ module _ (n : ℕ) (run : List ℕ) where
 
   run-open : (p : ℕ) → firstObject (take n run) ≡ refused2 (drop p (take n run)) → length (take n run) ≤ p → (m : Mode) × (k : List Frame) × (firstObject run ≡ walk m k (drop n run))
   run-open p h l = rw (h, drop-of-length-le (take n run) l) at run-goes
-
-pub place-of : (run : List ℕ) (p : ℕ) → p ≤ length run → placeIn run (drop p run) ≡ p
-place-of run p h = omega (arith, length-drop p run)
 
 first-length : (n : ℕ) (run : List ℕ) → length (take n run) ≤ n
 first-length zero run = omega arith

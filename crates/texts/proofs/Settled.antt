@@ -9,6 +9,7 @@ use borrow.Author.Tests.{le-leb, lt-leb, not-true, not-false}
 use Rattle.json.specs.Byte.{blanked}
 use Rattle.json.specs.Tree.{Moves}
 use Rattle.json.specs.Walk.{firstObject, oneObject}
+use Rattle.json.proofs.Places.{place-of}
 use Rattle.walk.specs.Turn.{Tells}
 use Rattle.walk.specs.declared.End.{End as Ended}
 use Rattle.walk.specs.declared.End.the-variants as E
@@ -18,7 +19,7 @@ use Rattle.texts.specs.Texts.{oneWalked, oneText, notEnded, firstWalked,
 use Rattle.texts.specs.declared.FirstText.{FirstText}
 use Rattle.texts.specs.declared.OneText.the-variants as O
 use Rattle.texts.specs.declared.FirstText.the-variants as F
-use Rattle.texts.proofs.Prefixes.{place-of, text-ends, text-bad, text-deep}
+use Rattle.texts.proofs.Prefixes.{text-ends, text-bad, text-deep}
 
 module _ (purpose : ℕ) (text : List ℕ) {used : Bool} (is : used ≡ isUse purpose) where
   pub one-unused : not used ≡ true → O.Refused 17 0 ≡ oneText purpose text
