@@ -1,7 +1,7 @@
 /* ChMed23A posologies (eMediplan, "Posology" 2.1) read and written from C.
  *
  * The three functions are proved: for every input, the number that is returned, the place, and each byte of the lent buffers are those that
- * document 01 names (docs/PROMISES.md). They allocate nothing, keep nothing between calls and call nothing of the C library but memcpy and
+ * docs/FORMAT.md names (docs/PROMISES.md). They allocate nothing, keep nothing between calls and call nothing of the C library but memcpy and
  * memset, which the compiler puts in; what they are lent they use until they return, and not after. Calls in different threads don't meet, as long as no buffer that one of them writes is
  * another's.
  *
@@ -35,7 +35,7 @@ enum posology_use {
     POSOLOGY_PRESCRIPTION = 3
 };
 
-/* What a call returns (document 01, "Answers by number"); behind each, what `*place` is. */
+/* What a call returns (docs/FORMAT.md, "Answers by number"); behind each, what `*place` is. */
 enum posology_answer {
     POSOLOGY_DONE = 0,          /* taken or written: see each function */
     POSOLOGY_TOO_LONG = 1,      /* text longer than 32,768 bytes: 32,768 */
