@@ -107,11 +107,11 @@ behind-leading {run = run} {r = r} b d =
     let w = taken-text (J.run-complete b d .0) in
     subst (λ (s : List ℕ). drop (placeIn s r) s ≡ r) (sym (w .1)) (behind-place (w .0) r)
 
-pub reordered-next : (purpose room : ℕ) {run run′ r r′ : List ℕ} {t t′ : Tree} (p : Posology) (e : ℕ) → Leading t run r → Leading t′ run′ r′ → placeIn run′ r′ ≤ textAtMost → Reordered t t′ → readNext purpose room run ≡ takenTo p e → (e′ : ℕ) × (readNext purpose room run′ ≡ takenTo p e′) × (drop e′ run′ ≡ r′)
+pub reordered-next : (purpose room : ℕ) {run run′ r r′ : List ℕ} {t t′ : Tree} (p : Posology) (e : ℕ) → Leading t run r → Leading t′ run′ r′ → placeIn run′ r′ ≤ textAtMost → Reordered t t′ → readNext purpose room run ≡ takenTo p e → readNext purpose room run′ ≡ takenTo p (placeIn run′ r′)
 reordered-next purpose room {run} {run′} {r} {r′} {t} {t′} p e a b near o h =
     let k = next-taken purpose room run p e h in
     let j = J.run-sound (k .walked) in
     let same : treeOf run ≡ t = J.one-leading (j .0) a .0 in
     let shallow : depth t′ ≤ 20 = subst (λ (n : ℕ). n ≤ 20) (ap depth same ∙ reordered-depth o) (j .1) in
     let v : visit purpose room t′ ≡ done p (k .left) = visit-reordered o purpose room (subst (λ (u : Tree). visit purpose room u ≡ done p (k .left)) same (k .is)) in
-    (placeIn run′ r′, taken-next purpose room run′ t′ r′ p (k .left) (k .for-use) b shallow near v, behind-leading b shallow)
+    taken-next purpose room run′ t′ r′ p (k .left) (k .for-use) b shallow near v
