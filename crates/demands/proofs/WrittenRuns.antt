@@ -33,7 +33,8 @@ texts-written purpose room buffer (next-posology {p = p} {ps = ps} v f g w) (nex
 
 -- Where all are written, the buffer holds each.
 module _ (buffer : ℕ) (p : Posology) (ps : List Posology) (run : List ℕ) (rest : Option (List ℕ)) (more : (s : List ℕ) → rest ≡ some s → AllWithin buffer ps) where
-  front-within : (b : Bool) → leb (length (plain p)) buffer ≡ b → (o : Option (List ℕ)) → rest ≡ o → inFront (cond b (writes (plain p)) (refuses 19 (length (plain p)))) o ≡ some run → AllWithin buffer (p ∷ ps)
+  front-within : (b : Bool) → leb (length (plain p)) buffer ≡ b → (o : Option (List ℕ)) → rest ≡ o
+      → inFront (cond b (writes (plain p)) (refuses 19 (length (plain p)))) o ≡ some run → AllWithin buffer (p ∷ ps)
   front-within true h (some s) i e = next-text (leb-true (length (plain p)) buffer h) (more s i)
   front-within true h none i e = let z : _≡_ {A = ℕ} 0 1 = cc in absurd (omega arith)
   front-within false h o i e = let z : _≡_ {A = ℕ} 0 1 = cc in absurd (omega arith)

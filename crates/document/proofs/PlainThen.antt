@@ -55,11 +55,15 @@ mutual
 
   first-member-then : (ms : Members) (j k : List ℕ) → firstMember ms (j ++ k) ≡ firstMember ms j ++ k
   first-member-then noMember j k = refl
-  first-member-then (member q n t ms) j k = ap (λ (s : List ℕ). 34 ∷ s) (named-then n (spell t (moreMembers ms j)) k (ap (spell t) (more-members-then ms j k) ∙ spell-then t (moreMembers ms j) k))
+  first-member-then (member q n t ms) j k =
+      ap (λ (s : List ℕ). 34 ∷ s)
+      (named-then n (spell t (moreMembers ms j)) k (ap (spell t) (more-members-then ms j k) ∙ spell-then t (moreMembers ms j) k))
 
   more-members-then : (ms : Members) (j k : List ℕ) → moreMembers ms (j ++ k) ≡ moreMembers ms j ++ k
   more-members-then noMember j k = refl
-  more-members-then (member q n t ms) j k = ap (λ (s : List ℕ). 44 ∷ 34 ∷ s) (named-then n (spell t (moreMembers ms j)) k (ap (spell t) (more-members-then ms j k) ∙ spell-then t (moreMembers ms j) k))
+  more-members-then (member q n t ms) j k =
+      ap (λ (s : List ℕ). 44 ∷ 34 ∷ s)
+      (named-then n (spell t (moreMembers ms j)) k (ap (spell t) (more-members-then ms j k) ∙ spell-then t (moreMembers ms j) k))
 
   first-element-then : (es : Elements) (j k : List ℕ) → firstElement es (j ++ k) ≡ firstElement es j ++ k
   first-element-then noElement j k = refl
