@@ -4,4 +4,6 @@ pub mod Demand2
 pub mod Demand3
 -- What they rest on
 pub mod Leaves
+pub mod WholeRuns
 pub mod PlainRuns
+pub mod WrittenRuns

@@ -1,37 +1,40 @@
--- Plain texts one behind the other read back.
-use mathlib.Core.Path.{_≡_, ap, sym, _∙_}
+-- Plain texts one behind the other are a run of one text for each posology, and no other list has them.
+use mathlib.Core.Path.{_≡_, refl, ap, sym, subst, _∙_}
 use mathlib.Core.List.{List, [], _∷_}
-use mathlib.Core.Bool.{Bool, true}
+use mathlib.Core.Bool.{true}
 use mathlib.Core.Option.{some}
-use Prim.Native.Nat.{ℕ, zero, suc, _+_, _≤_}
+use Prim.Native.Nat.{ℕ, _+_}
 use native.Mathlib.Omega.{arith}
-use lib.ListN.{length, drop}
-use Rattle.json.specs.Rows.{choose}
+use lib.ListN.{length}
+use Rattle.json.specs.Grammar.{here}
 use Rattle.document.specs.Posology.{Posology}
+use Rattle.document.specs.Plain.{plain}
 use Rattle.document.specs.Valid.{isUse}
-use Rattle.document.specs.Plain.{plainThen}
-use Rattle.document.specs.Answer.{ReadNext, blankTo, refusedAt, readNext}
-use Rattle.document.proofs.PlainTexts.{plain-next}
-use Rattle.demands.specs.Runs.{plainTexts, andThen, onward, readAll, AllValid, no-posology, next-posology}
+use Rattle.document.proofs.PlainTexts.{reordered-plain-next, plain-short, plain-place, plain-spells}
+use Rattle.demands.specs.Runs.{plainTexts, posologies, readAll, endings, AllValid, no-posology, next-posology, RunOf, only-blanks, Reorders}
+use Rattle.demands.proofs.WholeRuns.{TakesFirst, run-read, text-ends}
 
-nothing-left : (purpose room : ℕ) → isUse purpose ≡ true → readNext purpose room [] ≡ blankTo 0
-unfolding readNext
-nothing-left purpose room u = ap (λ (b : Bool). choose b (λ _. blankTo 0) λ _. refusedAt 17 0) u
+pub takes-reordered : (purpose room : ℕ) → TakesFirst Reorders purpose room
+takes-reordered purpose room s r t p v f o l near = reordered-plain-next purpose room p v f (o .1) (o .2) l near
 
--- With steps to spare, the same list comes back.
-pub texts-read : (purpose room : ℕ) (ps : List Posology) (n : ℕ) → isUse purpose ≡ true → AllValid purpose room ps → length ps ≤ n → readAll (suc n) purpose room (plainTexts ps) ≡ some ps
-unfolding readAll plainTexts
-texts-read purpose room [] n u no-posology h = ap (λ (r : ReadNext). onward r (λ e. readAll n purpose room (drop e []))) (nothing-left purpose room u)
-texts-read purpose room (p ∷ ps) zero u (next-posology v f g w) h = absurd (omega arith)
-texts-read purpose room (p ∷ ps) (suc n) u (next-posology v f g w) h =
-    let a = plain-next purpose room p (plainTexts ps) v f g in
-    ap (λ (r : ReadNext). onward r (λ e. readAll (suc n) purpose room (drop e (plainThen p (plainTexts ps))))) (a .1)
-    ∙ ap (λ (s : List ℕ). andThen p (readAll (suc n) purpose room s)) (a .2)
-    ∙ ap (andThen p) (texts-read purpose room ps n u w (omega arith))
+pub texts-run : (purpose room from : ℕ) {ps : List Posology} → AllValid purpose room ps → RunOf Reorders from (plainTexts ps) (endings from ps)
+unfolding plainTexts endings
+texts-run purpose room from no-posology = only-blanks here
+texts-run purpose room from (next-posology {p = p} {ps = ps} v f g w) =
+    let s = plain-spells purpose p (plainTexts ps) (v .1) in
+    text-ends (plain-place p (plainTexts ps)) (s .0, s .2, s .3) (s .4) (plain-short purpose p (plainTexts ps) (v .1) f) (texts-run purpose room (from + length (plain p)) w)
+
+those-ending : (from : ℕ) (ps : List Posology) → posologies (endings from ps) ≡ ps
+unfolding endings
+those-ending from [] = refl
+those-ending from (p ∷ ps) = ap (λ (qs : List Posology). p ∷ qs) (those-ending (from + length (plain p)) ps)
+
+pub texts-read : (purpose room : ℕ) {ps : List Posology} → isUse purpose ≡ true → AllValid purpose room ps → readAll purpose room (plainTexts ps) ≡ some (endings 0 ps)
+texts-read purpose room {ps} u v =
+    run-read Reorders purpose room u (takes-reordered purpose room) (length (plainTexts ps)) (texts-run purpose room 0 v) (subst (AllValid purpose room) (sym (those-ending 0 ps)) v) (omega arith)
 
 pub texts-one : (purpose room : ℕ) (ps qs : List Posology) → isUse purpose ≡ true → AllValid purpose room ps → AllValid purpose room qs → plainTexts ps ≡ plainTexts qs → ps ≡ qs
 texts-one purpose room ps qs u v w e =
-    let a = texts-read purpose room ps (length ps + length qs) u v (omega arith) in
-    let b = texts-read purpose room qs (length ps + length qs) u w (omega arith) in
-    let c : some ps ≡ some qs = sym a ∙ ap (λ (s : List ℕ). readAll (suc (length ps + length qs)) purpose room s) e ∙ b in
-    cc c
+    let a : some (endings 0 ps) ≡ some (endings 0 qs) = sym (texts-read purpose room u v) ∙ ap (readAll purpose room) e ∙ texts-read purpose room u w in
+    let b : endings 0 ps ≡ endings 0 qs = cc a in
+    sym (those-ending 0 ps) ∙ ap posologies b ∙ those-ending 0 qs

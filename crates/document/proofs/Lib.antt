@@ -31,6 +31,7 @@ pub mod Utf8Sequences
 pub mod QuotedChars
 pub mod PlainSpells
 pub mod PlainSpellable
+pub mod PlainThen
 pub mod PlainTexts
 pub mod WordsBack
 pub mod DaySets

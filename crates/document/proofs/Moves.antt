@@ -1,4 +1,4 @@
--- Reordering keeps the depth, and trees that differ in places alone are reordered ones.
+-- Reordering keeps the depth, goes back and goes on; and trees that differ in places alone are reordered ones.
 use mathlib.Core.Path.{_≡_, refl, ap, subst, _∙_}
 use Prim.Native.Nat.{ℕ, suc, max, _≤_}
 use native.Mathlib.Omega.{arith}
@@ -78,7 +78,7 @@ mutual
   placing-elements (element t es) = next-element (placing t) (placing-elements es)
 
 mutual
-  reordered-then : {t u v : Tree} → Reordered t u → Reordered u v → Reordered t v
+  pub reordered-then : {t u v : Tree} → Reordered t u → Reordered u v → Reordered t v
   reordered-then (an-object h) (an-object k) = an-object (twice h k)
   reordered-then (a-list h) (a-list k) = a-list (elements-then h k)
   reordered-then a-string a-string = a-string
@@ -89,6 +89,25 @@ mutual
   elements-then : {es ds cs : Elements} → ReorderedElements es ds → ReorderedElements ds cs → ReorderedElements es cs
   elements-then no-element no-element = no-element
   elements-then (next-element h r) (next-element i s) = next-element (reordered-then h i) (elements-then r s)
+
+mutual
+  pub reordered-back : {t u : Tree} → Reordered t u → Reordered u t
+  reordered-back (an-object h) = an-object (members-back h)
+  reordered-back (a-list h) = a-list (elements-back h)
+  reordered-back a-string = a-string
+  reordered-back a-number = a-number
+  reordered-back a-bool = a-bool
+  reordered-back a-null = a-null
+
+  members-back : {ms ns : Members} → ReorderedMembers ms ns → ReorderedMembers ns ms
+  members-back no-member = no-member
+  members-back (next-member h k) = next-member (reordered-back h) (members-back k)
+  members-back swap = swap
+  members-back (twice h k) = twice (members-back k) (members-back h)
+
+  elements-back : {es ds : Elements} → ReorderedElements es ds → ReorderedElements ds es
+  elements-back no-element = no-element
+  elements-back (next-element h k) = next-element (reordered-back h) (elements-back k)
 
 pub moved : (t u : Tree) → unplaced t ≡ unplaced u → Reordered t u
 moved t u e = reordered-then (subst (λ (v : Tree). Reordered t v) e (unplacing t)) (placing u)

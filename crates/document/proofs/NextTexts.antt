@@ -1,8 +1,8 @@
 -- The cases of a run's answer, and the first text of a run reordered.
 use mathlib.Core.Path.{_≡_, refl, ap, sym, subst, _∙_}
 use mathlib.Core.List.{List, [], _∷_, _++_}
-use mathlib.Core.Bool.{Bool, true, false, cond, _||_}
-use Prim.Native.Nat.{ℕ, _+_, _-_, _≤_}
+use mathlib.Core.Bool.{Bool, true, false, false≢true, cond, _||_}
+use Prim.Native.Nat.{ℕ, _-_, _≤_}
 use native.Mathlib.Omega.{arith}
 use lib.Dec.{leb, ltb}
 use lib.ListN.{length, drop, length-append}
@@ -17,13 +17,14 @@ use Rattle.moving.specs.Read.{treeOf}
 use Rattle.spelling.specs.Depth.{depth}
 use Rattle.spelling.specs.Leading.{Leading, leading}
 use Rattle.spelling.proofs.Spells as J
+use Rattle.spelling.proofs.Blanks.{blanks-blanked}
 use Rattle.spelling.proofs.Shorter.{to-sharp, value-sharp}
 use Rattle.spelling.proofs.Shortest.{taken-text}
 use Rattle.document.specs.Posology.{Posology}
 use Rattle.document.specs.Same.{Reordered}
 use Rattle.document.specs.Visit.{Left, Outcome, done, refuse, visit}
 use Rattle.document.specs.Valid.{isUse}
-use Rattle.document.specs.Answer.{visited, readWalked, takenTo, blankTo, refusedAt, upTo, notEnded, nextWalked, nextBegun, readNext, textAtMost}
+use Rattle.document.specs.Answer.{Read, taken, refused, visited, readWalked, ReadNext, takenTo, blankTo, refusedAt, upTo, notEnded, nextWalked, nextBegun, readNext, textAtMost}
 use Rattle.document.proofs.Reorder.{visit-reordered}
 use Rattle.document.proofs.Moves.{reordered-depth}
 use Rattle.json.proofs.Truth.{choose-true}
@@ -80,6 +81,41 @@ next-taken purpose room run p e h = go (isUse purpose) refl h
     go true u g = begun-taken purpose room run (blanked run) p e u g
     go false u g = refused-not-taken 17 0 e p g
 
+-- A run that is not all blanks does not come to blanks.
+abbrev isBlankTo : ReadNext → Bool
+isBlankTo (takenTo p e) = false
+isBlankTo (blankTo n) = true
+isBlankTo (refusedAt n place) = false
+
+up-not-blank : (at : ℕ) (x : Read) → isBlankTo (upTo at x) ≡ false
+up-not-blank at (taken p) = refl
+up-not-blank at (refused n place) = refl
+
+ended-not-blank : (n : ℕ) (run : List ℕ) (place : ℕ) → isBlankTo (notEnded n run place) ≡ false
+ended-not-blank n run place = go (leb (length run) textAtMost || ltb place textAtMost)
+  where
+    go : (b : Bool) → isBlankTo (cond b (refusedAt n place) (refusedAt 1 textAtMost)) ≡ false
+    go true = refl
+    go false = refl
+
+walked-not-blank : (purpose room : ℕ) (run : List ℕ) (w : Walked) → isBlankTo (nextWalked purpose room run w) ≡ false
+walked-not-blank purpose room run (end r) = go (leb (placeIn run r) textAtMost)
+  where
+    go : (b : Bool) → isBlankTo (choose b (λ _. upTo (placeIn run r) (readWalked purpose room run)) λ _. refusedAt 1 textAtMost) ≡ false
+    go true = up-not-blank (placeIn run r) (readWalked purpose room run)
+    go false = refl
+walked-not-blank purpose room run (refused2 q) = ended-not-blank 2 run (placeIn run q)
+walked-not-blank purpose room run (refused3 q) = ended-not-blank 3 run (placeIn run q)
+
+pub next-blank : (purpose room : ℕ) (run : List ℕ) (n : ℕ) → readNext purpose room run ≡ blankTo n → G.Blanks run []
+unfolding readNext
+next-blank purpose room run n h = go (isUse purpose) (blanked run) refl h
+  where
+    go : (b : Bool) (s : List ℕ) → blanked run ≡ s → choose b (λ _. nextBegun purpose room run s) (λ _. refusedAt 17 0) ≡ blankTo n → G.Blanks run []
+    go true [] e g = subst (G.Blanks run) e (blanks-blanked run)
+    go true (b ∷ s) e g = absurd (false≢true (sym (walked-not-blank purpose room run (firstObject run)) ∙ ap isBlankTo g))
+    go false s e g = absurd (false≢true (ap isBlankTo g))
+
 -- A run that begins with an object is not all blanks.
 begins-with : {t : Tree} {run r : List ℕ} → Leading t run r → (s : List ℕ) × (blanked run ≡ 123 ∷ s)
 begins-with (leading b (G.anEmptyObject {s = s} c)) = (s, to-sharp b (value-sharp (G.anEmptyObject c)))
@@ -107,11 +143,19 @@ behind-leading {run = run} {r = r} b d =
     let w = taken-text (J.run-complete b d .0) in
     subst (λ (s : List ℕ). drop (placeIn s r) s ≡ r) (sym (w .1)) (behind-place (w .0) r)
 
-pub reordered-next : (purpose room : ℕ) {run run′ r r′ : List ℕ} {t t′ : Tree} (p : Posology) (e : ℕ) → Leading t run r → Leading t′ run′ r′ → placeIn run′ r′ ≤ textAtMost → Reordered t t′ → readNext purpose room run ≡ takenTo p e → (e′ : ℕ) × (readNext purpose room run′ ≡ takenTo p e′) × (drop e′ run′ ≡ r′)
+-- What follows the text that was taken.
+pub behind-next : (purpose room : ℕ) {run r : List ℕ} {t : Tree} (p : Posology) (e : ℕ) → Leading t run r → readNext purpose room run ≡ takenTo p e → drop e run ≡ r
+behind-next purpose room {run} p e a h =
+    let k = next-taken purpose room run p e h in
+    let j = J.run-sound (k .walked) in
+    ap (λ (n : ℕ). drop n run) (sym (k .ends)) ∙ behind-leading (j .0) (j .1) ∙ J.one-leading (j .0) a .1
+
+pub reordered-next : (purpose room : ℕ) {run run′ r r′ : List ℕ} {t t′ : Tree} (p : Posology) (e : ℕ) → Leading t run r → Leading t′ run′ r′
+    → placeIn run′ r′ ≤ textAtMost → Reordered t t′ → readNext purpose room run ≡ takenTo p e → readNext purpose room run′ ≡ takenTo p (placeIn run′ r′)
 reordered-next purpose room {run} {run′} {r} {r′} {t} {t′} p e a b near o h =
     let k = next-taken purpose room run p e h in
     let j = J.run-sound (k .walked) in
     let same : treeOf run ≡ t = J.one-leading (j .0) a .0 in
     let shallow : depth t′ ≤ 20 = subst (λ (n : ℕ). n ≤ 20) (ap depth same ∙ reordered-depth o) (j .1) in
     let v : visit purpose room t′ ≡ done p (k .left) = visit-reordered o purpose room (subst (λ (u : Tree). visit purpose room u ≡ done p (k .left)) same (k .is)) in
-    (placeIn run′ r′, taken-next purpose room run′ t′ r′ p (k .left) (k .for-use) b shallow near v, behind-leading b shallow)
+    taken-next purpose room run′ t′ r′ p (k .left) (k .for-use) b shallow near v

@@ -2,20 +2,23 @@
 use mathlib.Core.Path.{_≡_, ap, sym, subst, _∙_}
 use mathlib.Core.List.{List}
 use Prim.Native.Nat.{ℕ, _≤_}
+use native.Mathlib.Omega.{arith}
 use lib.ListN.{length}
-use Rattle.json.specs.Tree.{Tree}
+use Rattle.json.specs.Tree.{placeIn, Tree}
 use Rattle.moving.specs.Read.{treeOf}
 use Rattle.json.specs.Grammar.{Text}
 use Rattle.spelling.specs.Depth.{depth}
+use Rattle.spelling.specs.Leading.{Leading}
 use Rattle.spelling.proofs.Spells as J
 use Rattle.document.specs.Posology.{Posology}
 use Rattle.document.specs.Visit.{done, visit}
 use Rattle.document.specs.Valid.{Valid, Fits}
-use Rattle.document.specs.Spells.{Spells, Means}
-use Rattle.document.specs.Answer.{taken, read, textAtMost}
+use Rattle.document.specs.Spells.{Spells, Means, openAtMost}
+use Rattle.document.specs.Answer.{taken, read, textAtMost, takenTo, readNext}
 use Rattle.document.proofs.Texts.{read-taken, taken-read}
+use Rattle.document.proofs.NextTexts.{next-taken, taken-next}
 use Rattle.document.proofs.Accepts.{taken-means, means-taken}
-use Rattle.document.proofs.Utf8Texts.{text-utf8}
+use Rattle.document.proofs.Utf8Texts.{text-utf8, leading-utf8}
 use Rattle.document.proofs.OneMeaning.{means-one}
 use Rattle.document.proofs.Reorder.{visit-reordered}
 use Rattle.document.proofs.Moves.{reordered-depth}
@@ -33,6 +36,21 @@ spelled-accepted purpose room text p short v s f =
     let c = J.complete (s .1) (s .2) in
     let k = means-taken (s .0) purpose room p (s .3) (v .1) f in
     taken-read purpose room text p (record { for-use = v .0; short = short; rest = c .0; walked = c .3; left = k .0; is = ap (λ (t : Tree). visit purpose room t) (c .4) ∙ k .1 })
+
+-- So is the first text of a run.
+pub next-spells : (purpose room : ℕ) (run : List ℕ) (p : Posology) (e : ℕ) → readNext purpose room run ≡ takenTo p e
+    → Valid purpose p × Fits room p × (t : Tree) × (r : List ℕ) × Leading t run r × (depth t ≤ openAtMost) × Means t p × (placeIn run r ≡ e) × (e ≤ textAtMost)
+next-spells purpose room run p e h =
+    let k = next-taken purpose room run p e h in
+    let j = J.run-sound (k .walked) in
+    let m = taken-means (treeOf run) (leading-utf8 (j .0)) purpose room p (k .left) (k .is) in
+    ((k .for-use, m .1), m .2, treeOf run, k .rest, j .0, j .1, m .0, k .ends, k .near)
+
+pub spelled-next : (purpose room : ℕ) {run r : List ℕ} {t : Tree} (p : Posology) (e : ℕ)
+    → Valid purpose p → Fits room p → Leading t run r → depth t ≤ openAtMost → Means t p → placeIn run r ≡ e → e ≤ textAtMost → readNext purpose room run ≡ takenTo p e
+spelled-next purpose room {run} {r} {t} p e v f b d m ends near =
+    let k = means-taken t purpose room p m (v .1) f in
+    taken-next purpose room run t r p (k .0) (v .0) b d (omega arith) (k .1) ∙ ap (takenTo p) ends
 
 pub one-posology : (text : List ℕ) (p q : Posology) → Spells text p → Spells text q → p ≡ q
 one-posology text p q a b = means-one (a .0) p q (a .3) (subst (λ (t : Tree). Means t q) (sym (J.one-tree (a .1) (b .1))) (b .3))

@@ -10,6 +10,7 @@ use Rattle.json.specs.Rows.{look}
 use Rattle.json.specs.Byte.{within}
 use Rattle.json.specs.Tree.{Tree, Members, Elements}
 use Rattle.json.specs.Grammar as G
+use Rattle.spelling.specs.Leading.{Leading, leading}
 use Rattle.spelling.specs.Utf8.{Utf8, Tail}
 use Rattle.spelling.specs.Utf8 as U
 use Rattle.json.proofs.Rows.{under, between}
@@ -83,3 +84,6 @@ mutual
 
 pub text-utf8 : {t : Tree} {s : List ℕ} → G.Text t s → Utf8Tree t
 text-utf8 (G.text a v b) = value-utf8 v
+
+pub leading-utf8 : {t : Tree} {s r : List ℕ} → Leading t s r → Utf8Tree t
+leading-utf8 (leading b v) = value-utf8 v

@@ -8,10 +8,6 @@ use native.Mathlib.Nat.{min-le-right, le-trans}
 use lib.Dec.{eqb}
 use lib.ListN.{length, drop}
 use Rattle.json.specs.Rows.{choose}
-use Rattle.json.specs.Tree.{Tree}
-use Rattle.moving.specs.Read.{treeOf}
-use Rattle.spelling.specs.Leading.{Leading, leading}
-use Rattle.spelling.proofs.Spells.{run-sound}
 use Rattle.document.specs.Posology.{Posology}
 use Rattle.document.specs.Valid.{Valid, Fits, roomOf, strings}
 use Rattle.document.specs.Table.{tableOf}
@@ -19,11 +15,8 @@ use Rattle.document.specs.Plain.{plain}
 use Rattle.document.specs.Answer.{Read, taken, refused, read, bufferAfter, ReadNext, takenTo, refusedAt, readNext, nextBufferAfter}
 use Rattle.document.specs.Write.{write, fitting, greatestRoom}
 use Rattle.document.specs.declared.table.Table.{Table}
-use Rattle.document.proofs.Accepts.{taken-means}
-use Rattle.document.proofs.NextTexts.{next-taken}
-use Rattle.document.proofs.Sound.{Utf8Tree}
-use Rattle.document.proofs.Utf8Texts.{value-utf8}
 use Rattle.demands.proofs.Demand2.{accepted-iff-spells, plain-is-one}
+use Rattle.demands.proofs.Demand3.{first-iff-spells}
 use Rattle.area.specs.Area.{areaBytes, areaOf}
 use Rattle.held.proofs.AreaBack.{area-back, area-length, is-area}
 use Rattle.hospital.specs.Calls.{called, areaAfter, calledNext, nextAreaAfter, calledWrite}
@@ -52,9 +45,6 @@ read-written purpose text buffer area out p e =
     let a = accepted-iff-spells purpose (roomOf (length buffer)) text p .0 r in
     laid-written purpose p (a .1) (le-trans (a .3) (min-le-right (length buffer) greatestRoom)) buffer out
 
-leading-utf8 : {t : Tree} {s r : List ℕ} → Leading t s r → Utf8Tree t
-leading-utf8 (leading blanks value) = value-utf8 value
-
 was-next : (b : Bool) (x : ReadNext) (p : Posology) (e : ℕ) → choose b (λ _. x) (λ _. refusedAt 19 areaBytes) ≡ takenTo p e → x ≡ takenTo p e
 was-next true x p e h = h
 was-next false x p e h = let z : _≡_ {A = ℕ} 0 1 = cc in absurd (omega arith)
@@ -65,6 +55,5 @@ pub next-written : (purpose : ℕ) (run buffer area out : List ℕ) (p : Posolog
 unfolding calledNext nextAreaAfter
 next-written purpose run buffer area out p e h =
     let r : readNext purpose (roomOf (length buffer)) run ≡ takenTo p e = was-next (eqb (length area) areaBytes) (readNext purpose (roomOf (length buffer)) run) p e h in
-    let k = next-taken purpose (roomOf (length buffer)) run p e r in
-    let m = taken-means (treeOf run) (leading-utf8 (run-sound (k .walked) .0)) purpose (roomOf (length buffer)) p (k .left) (k .is) in
-    laid-written purpose p (k .for-use, m .1) (le-trans (m .2) (min-le-right (length buffer) greatestRoom)) buffer out
+    let a = first-iff-spells purpose (roomOf (length buffer)) run p e .0 r in
+    laid-written purpose p (a .0) (le-trans (a .1) (min-le-right (length buffer) greatestRoom)) buffer out

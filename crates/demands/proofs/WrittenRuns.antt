@@ -1,0 +1,54 @@
+-- The writer makes the plain texts, one behind the other, and nothing else.
+use mathlib.Core.Path.{_≡_, refl, ap, sym, _∙_}
+use mathlib.Core.List.{List, [], _∷_, append-nil}
+use mathlib.Core.Bool.{Bool, true, false, cond}
+use mathlib.Core.Option.{Option, none, some}
+use Prim.Native.Nat.{ℕ}
+use native.Mathlib.Omega.{arith}
+use lib.Dec.{leb}
+use lib.ListN.{length}
+use borrow.Author.Tests.{leb-true, le-leb}
+use Rattle.json.proofs.Truth.{cond-true}
+use Rattle.document.specs.Posology.{Posology}
+use Rattle.document.specs.Table.{tableOf}
+use Rattle.document.specs.Plain.{plain}
+use Rattle.document.specs.Valid.{Valid, Fits, strings}
+use Rattle.document.specs.Write.{Write, writes, refuses, write, fitting, greatestRoom}
+use Rattle.document.proofs.Lengths.{plain-at-most}
+use Rattle.document.proofs.PlainThen.{plain-then}
+use Rattle.document.proofs.Tables.{own-written}
+use Rattle.demands.specs.Runs.{inFront, writeAll, plainTexts, AllValid, no-posology, next-posology, AllWithin, no-text, next-text}
+
+-- What it makes of one, in a buffer of so many bytes.
+one-written : (purpose buffer : ℕ) (p : Posology) → Valid purpose p → Fits greatestRoom p → write purpose (tableOf p) (strings p) buffer ≡ fitting buffer (plain p)
+one-written purpose buffer p v f = ap (λ (s : List ℕ). write purpose (tableOf p) s buffer) (sym (append-nil (strings p))) ∙ own-written purpose buffer p [] v f
+
+pub texts-written : (purpose room buffer : ℕ) {ps : List Posology} → AllValid purpose room ps → AllWithin buffer ps → writeAll purpose buffer ps ≡ some (plainTexts ps)
+unfolding writeAll plainTexts
+texts-written purpose room buffer no-posology no-text = refl
+texts-written purpose room buffer (next-posology {p = p} {ps = ps} v f g w) (next-text h more) =
+    ap (λ (x : Write). inFront x (writeAll purpose buffer ps)) (one-written purpose buffer p v f ∙ cond-true (leb (length (plain p)) buffer) _ _ (le-leb (length (plain p)) buffer h))
+    ∙ ap (inFront (writes (plain p))) (texts-written purpose room buffer w more)
+    ∙ ap some (sym (plain-then p (plainTexts ps)))
+
+-- Where all are written, the buffer holds each.
+module _ (buffer : ℕ) (p : Posology) (ps : List Posology) (run : List ℕ) (rest : Option (List ℕ)) (more : (s : List ℕ) → rest ≡ some s → AllWithin buffer ps) where
+  front-within : (b : Bool) → leb (length (plain p)) buffer ≡ b → (o : Option (List ℕ)) → rest ≡ o
+      → inFront (cond b (writes (plain p)) (refuses 19 (length (plain p)))) o ≡ some run → AllWithin buffer (p ∷ ps)
+  front-within true h (some s) i e = next-text (leb-true (length (plain p)) buffer h) (more s i)
+  front-within true h none i e = let z : _≡_ {A = ℕ} 0 1 = cc in absurd (omega arith)
+  front-within false h o i e = let z : _≡_ {A = ℕ} 0 1 = cc in absurd (omega arith)
+
+written-within : (purpose room buffer : ℕ) {ps : List Posology} (run : List ℕ) → AllValid purpose room ps → writeAll purpose buffer ps ≡ some run → AllWithin buffer ps
+unfolding writeAll
+written-within purpose room buffer run no-posology e = no-text
+written-within purpose room buffer run (next-posology {p = p} {ps = ps} v f g w) e =
+    front-within buffer p ps run (writeAll purpose buffer ps) (λ s i. written-within purpose room buffer s w i) (leb (length (plain p)) buffer) refl (writeAll purpose buffer ps) refl
+    (sym (ap (λ (x : Write). inFront x (writeAll purpose buffer ps)) (one-written purpose buffer p v f)) ∙ e)
+
+pub written-texts : (purpose room buffer : ℕ) {ps : List Posology} (run : List ℕ) → AllValid purpose room ps → writeAll purpose buffer ps ≡ some run → plainTexts ps ≡ run
+written-texts purpose room buffer run v e = let a = texts-written purpose room buffer v (written-within purpose room buffer run v e) in cc
+
+pub all-within : (purpose room : ℕ) {ps : List Posology} → AllValid purpose room ps → AllWithin 20736 ps
+all-within purpose room no-posology = no-text
+all-within purpose room (next-posology {p = p} v f g w) = let a = plain-at-most purpose p [] (v .1) f in next-text {p = p} (omega arith) (all-within purpose room w)
