@@ -5,3 +5,9 @@ pub mod Demand3
 -- What they rest on
 pub mod Leaves
 pub mod PlainRuns
+-- Refusals by their numbers
+pub mod Refusals
+pub mod VisitNumbers
+pub mod RefusalCases
+pub mod Cuts
+pub mod RefusalsGiven
