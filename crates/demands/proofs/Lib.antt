@@ -11,3 +11,10 @@ pub mod VisitNumbers
 pub mod RefusalCases
 pub mod Cuts
 pub mod RefusalsGiven
+-- Blanks between tokens
+pub mod BlanksBetween
+pub mod BareBytes
+pub mod BareStrings
+pub mod Respaced
+pub mod WholeTexts
+pub mod BareAgain
