@@ -4,9 +4,9 @@ use mathlib.Core.Path.{_≡_, refl, ap}
 use mathlib.Core.List.{List, [], _∷_}
 use mathlib.Core.Bool.{Bool, true, false}
 use lib.Dec.{eqb}
-use Rattle.json.specs.Rows.{choose}
 use Rattle.json.specs.Byte.{isBlank}
 use Rattle.demands.specs.Blanks.{bare, bareQuoted, bareEscaped, wholeAfter, wholeQuoted, wholeEscaped, whole}
+use Rattle.demands.proofs.BareBytes.{bareStep, quotedStep}
 
 -- Of bytes outside strings, in a string and behind a backslash.
 abbrev Outside : List ℕ → Type 0
@@ -25,7 +25,7 @@ mutual
   outside [] = (refl, λ p. refl)
   outside (b ∷ s) = which (isBlank b) (eqb b 34) refl refl (outside s) (quoted s)
     where
-      which : (x y : Bool) → isBlank b ≡ x → eqb b 34 ≡ y → Outside (bare s) → Quoted (bareQuoted s) → Outside (choose x (λ _. bare s) λ _. choose y (λ _. b ∷ bareQuoted s) λ _. b ∷ bare s)
+      which : (x y : Bool) → isBlank b ≡ x → eqb b 34 ≡ y → Outside (bare s) → Quoted (bareQuoted s) → Outside (bareStep x y b s)
       which true y e f h k = h
       which false true e f h k = (rw (e, f) (ap (λ z. b ∷ z) (k .0)), λ p. rw (e, f) (k .1))
       which false false e f h k = (rw (e, f) (ap (λ z. b ∷ z) (h .0)), λ p. rw (e, f) (h .1 b))
@@ -35,7 +35,7 @@ mutual
   quoted (b ∷ s) = which (eqb b 34) (eqb b 92) refl refl (outside s) (quoted s) (escaped s)
     where
       which : (x y : Bool) → eqb b 34 ≡ x → eqb b 92 ≡ y → Outside (bare s) → Quoted (bareQuoted s) → Escaped (bareEscaped s)
-          → Quoted (choose x (λ _. b ∷ bare s) λ _. choose y (λ _. b ∷ bareEscaped s) λ _. b ∷ bareQuoted s)
+          → Quoted (quotedStep x y b s)
       which true y e f h k l = (rw e (ap (λ z. b ∷ z) (h .0)), rw e (h .1 b))
       which false true e f h k l = (rw (e, f) (ap (λ z. b ∷ z) (l .0)), rw (e, f) (l .1))
       which false false e f h k l = (rw (e, f) (ap (λ z. b ∷ z) (k .0)), rw (e, f) (k .1))

@@ -12,10 +12,21 @@ use Rattle.json.proofs.Truth.{and-right, and-left}
 use Rattle.moving.specs.Moving.{firstByte}
 use Rattle.spelling.proofs.Bytes.{blank-not-numeric}
 use Rattle.document.proofs.Numerals.{Ends}
-use Rattle.demands.specs.Blanks.{bare, bareQuoted, inWord, wholeAfter, wholeQuoted}
+use Rattle.demands.specs.Blanks.{bare, bareQuoted, bareEscaped, inWord, mayPart, wholeAfter, wholeQuoted}
 
 never : {A : Type 0} → _≡_ {A = ℕ} 0 1 → A
 never e = absurd (omega arith)
+
+-- One step of each, by whether the byte is a blank, a quote, a backslash.
+abbrev pub bareStep : Bool → Bool → ℕ → List ℕ → List ℕ
+bareStep isBlank isQuote b s = choose isBlank (λ _. bare s) λ _. choose isQuote (λ _. b ∷ bareQuoted s) λ _. b ∷ bare s
+
+abbrev pub quotedStep : Bool → Bool → ℕ → List ℕ → List ℕ
+quotedStep isQuote isSlash b s = choose isQuote (λ _. b ∷ bare s) λ _. choose isSlash (λ _. b ∷ bareEscaped s) λ _. b ∷ bareQuoted s
+
+abbrev pub wholeStep : Bool → Bool → ℕ → ℕ → List ℕ → Bool
+wholeStep isBlank isQuote p b s =
+    choose isBlank (λ _. mayPart p (firstByte (bare s)) && wholeAfter p s) λ _. choose isQuote (λ _. wholeQuoted s) λ _. wholeAfter b s
 
 -- A byte outside strings, by its kind.
 pub bare-blank : (b : ℕ) (s : List ℕ) → isBlank b ≡ true → bare (b ∷ s) ≡ bare s
@@ -46,20 +57,21 @@ pub record Next (c : ℕ) (y s : List ℕ) : Type 0 where
   pub same : y ≡ behind (eqb c 34) rest
   pub unparted : wholeBehind (eqb c 34) c rest ≡ true
 
-next-here : (x : Bool) (b c : ℕ) (y s : List ℕ) → eqb b 34 ≡ x → c ∷ y ≡ choose x (λ _. b ∷ bareQuoted s) (λ _. b ∷ bare s) → choose x (λ _. wholeQuoted s) (λ _. wholeAfter b s) ≡ true → Next c y (b ∷ s)
-next-here true b c y s e h w = let q : c ≡ b = cc h in let r : y ≡ bareQuoted s = cc h in rw q (record { rest = s; blanks = here; same = rw e r; unparted = rw e w })
-next-here false b c y s e h w = let q : c ≡ b = cc h in let r : y ≡ bare s = cc h in rw q (record { rest = s; blanks = here; same = rw e r; unparted = rw e w })
+next-here : (x : Bool) (b c p : ℕ) (y s : List ℕ) → eqb b 34 ≡ x → c ∷ y ≡ bareStep false x b s → wholeStep false x p b s ≡ true → Next c y (b ∷ s)
+next-here true b c p y s e h w = let q : c ≡ b = cc h in let r : y ≡ bareQuoted s = cc h in rw q (record { rest = s; blanks = here; same = rw e r; unparted = rw e w })
+next-here false b c p y s e h w = let q : c ≡ b = cc h in let r : y ≡ bare s = cc h in rw q (record { rest = s; blanks = here; same = rw e r; unparted = rw e w })
 
-pub next : (c p : ℕ) (y s : List ℕ) → c ∷ y ≡ bare s → wholeAfter p s ≡ true → Next c y s
+next : (c p : ℕ) (y s : List ℕ) → c ∷ y ≡ bare s → wholeAfter p s ≡ true → Next c y s
 unfolding bare wholeAfter
 next c p y [] h w = never (cc h)
 next c p y (b ∷ s) h w = which (isBlank b) refl h w (next c p y s)
   where
-    which : (x : Bool) → isBlank b ≡ x → c ∷ y ≡ choose x (λ _. bare s) (λ _. choose (eqb b 34) (λ _. b ∷ bareQuoted s) λ _. b ∷ bare s)
-        → choose x (λ _. not (inWord p && inWord (firstByte (bare s))) && wholeAfter p s) (λ _. choose (eqb b 34) (λ _. wholeQuoted s) λ _. wholeAfter b s) ≡ true
-        → (c ∷ y ≡ bare s → wholeAfter p s ≡ true → Next c y s) → Next c y (b ∷ s)
-    which true e g v f = let n = f g (and-right (not (inWord p && inWord (firstByte (bare s)))) (wholeAfter p s) v) in record { rest = n .rest; blanks = blank e (n .blanks); same = n .same; unparted = n .unparted }
-    which false e g v f = next-here (eqb b 34) b c y s refl g v
+    which : (x : Bool) → isBlank b ≡ x → c ∷ y ≡ bareStep x (eqb b 34) b s → wholeStep x (eqb b 34) p b s ≡ true → (c ∷ y ≡ bare s → wholeAfter p s ≡ true → Next c y s)
+        → Next c y (b ∷ s)
+    which true e g v f =
+        let n = f g (and-right (mayPart p (firstByte (bare s))) (wholeAfter p s) v) in
+        record { rest = n .rest; blanks = blank e (n .blanks); same = n .same; unparted = n .unparted }
+    which false e g v f = next-here (eqb b 34) b c p y s refl g v
 
 -- Behind a byte of a word another one stands with no blank before it.
 both : (a b : Bool) → a ≡ true → b ≡ true → not (a && b) ≡ true → ⊥
@@ -67,48 +79,38 @@ both true true e f h = false≢true h
 both true false e f h = false≢true f
 both false b e f h = false≢true e
 
-pub next-in-word : (c p : ℕ) (y s : List ℕ) → inWord p ≡ true → inWord c ≡ true → eqb c 34 ≡ false → c ∷ y ≡ bare s → wholeAfter p s ≡ true → (r : List ℕ) × (s ≡ c ∷ r) × (y ≡ bare r) × (wholeAfter c r ≡ true)
+pub next-in-word : (c p : ℕ) (y s : List ℕ) → inWord p ≡ true → inWord c ≡ true → eqb c 34 ≡ false → c ∷ y ≡ bare s → wholeAfter p s ≡ true
+    → (r : List ℕ) × (s ≡ c ∷ r) × (y ≡ bare r) × (wholeAfter c r ≡ true)
 unfolding bare wholeAfter
 next-in-word c p y [] i j q h w = never (cc h)
-next-in-word c p y (b ∷ s) i j q h w = which (isBlank b) refl h w
+next-in-word c p y (b ∷ s) i j q h w = which (isBlank b) (eqb b 34) refl h w
   where
-    at : (x : Bool) → eqb b 34 ≡ x → c ∷ y ≡ choose x (λ _. b ∷ bareQuoted s) (λ _. b ∷ bare s) → choose x (λ _. wholeQuoted s) (λ _. wholeAfter b s) ≡ true → (r : List ℕ) × (b ∷ s ≡ c ∷ r) × (y ≡ bare r) × (wholeAfter c r ≡ true)
-    at true e g v = let k : c ≡ b = cc g in absurd (false≢true (sym q ∙ ap (λ n. eqb n 34) k ∙ e))
-    at false e g v = let k : b ≡ c = cc g in (s, ap (λ n. n ∷ s) k, cc g, rw k at v)
-
-    which : (x : Bool) → isBlank b ≡ x → c ∷ y ≡ choose x (λ _. bare s) (λ _. choose (eqb b 34) (λ _. b ∷ bareQuoted s) λ _. b ∷ bare s)
-        → choose x (λ _. not (inWord p && inWord (firstByte (bare s))) && wholeAfter p s) (λ _. choose (eqb b 34) (λ _. wholeQuoted s) λ _. wholeAfter b s) ≡ true
-        → (r : List ℕ) × (b ∷ s ≡ c ∷ r) × (y ≡ bare r) × (wholeAfter c r ≡ true)
-    which true e g v = absurd (both (inWord p) (inWord (firstByte (bare s))) i (rw (← g) j) (and-left (not (inWord p && inWord (firstByte (bare s)))) (wholeAfter p s) v))
-    which false e g v = at (eqb b 34) refl g v
+    which : (x z : Bool) → eqb b 34 ≡ z → c ∷ y ≡ bareStep x z b s → wholeStep x z p b s ≡ true → (r : List ℕ) × (b ∷ s ≡ c ∷ r) × (y ≡ bare r) × (wholeAfter c r ≡ true)
+    which true z e g v = absurd (both (inWord p) (inWord (firstByte (bare s))) i (rw (← g) j) (and-left (mayPart p (firstByte (bare s))) (wholeAfter p s) v))
+    which false true e g v = let k : c ≡ b = cc g in absurd (false≢true (sym q ∙ ap (λ n. eqb n 34) k ∙ e))
+    which false false e g v = let k : b ≡ c = cc g in (s, ap (λ n. n ∷ s) k, cc g, rw k at v)
 
 -- No byte of a number comes next, blanks aside: so none comes next.
 pub ends-same : (r s : List ℕ) → Ends (bare r) → bare r ≡ bare s → Ends s
 unfolding bare
 ends-same r [] h e = tt
-ends-same r (b ∷ s) h e = which (isBlank b) refl (rw e at h)
+ends-same r (b ∷ s) h e = which (isBlank b) (eqb b 34) refl (rw e at h)
   where
-    at : (x : Bool) → Ends (choose x (λ _. b ∷ bareQuoted s) (λ _. b ∷ bare s)) → isNumeric b ≡ false
-    at true g = g
-    at false g = g
-
-    which : (x : Bool) → isBlank b ≡ x → Ends (choose x (λ _. bare s) (λ _. choose (eqb b 34) (λ _. b ∷ bareQuoted s) λ _. b ∷ bare s)) → isNumeric b ≡ false
-    which true f g = blank-not-numeric b f
-    which false f g = at (eqb b 34) g
+    which : (x y : Bool) → isBlank b ≡ x → Ends (bareStep x y b s) → isNumeric b ≡ false
+    which true y f g = blank-not-numeric b f
+    which false true f g = g
+    which false false f g = g
 
 -- Nothing but blanks.
 pub all-blanks : (s : List ℕ) → [] ≡ bare s → Blanks s []
 unfolding bare
 all-blanks [] e = here
-all-blanks (b ∷ s) e = which (isBlank b) refl e (all-blanks s)
+all-blanks (b ∷ s) e = which (isBlank b) (eqb b 34) refl e (all-blanks s)
   where
-    at : (x : Bool) → [] ≡ choose x (λ _. b ∷ bareQuoted s) (λ _. b ∷ bare s) → ⊥
-    at true g = never (cc g)
-    at false g = never (cc g)
-
-    which : (x : Bool) → isBlank b ≡ x → [] ≡ choose x (λ _. bare s) (λ _. choose (eqb b 34) (λ _. b ∷ bareQuoted s) λ _. b ∷ bare s) → ([] ≡ bare s → Blanks s []) → Blanks (b ∷ s) []
-    which true f g k = blank f (k g)
-    which false f g k = absurd (at (eqb b 34) g)
+    which : (x y : Bool) → isBlank b ≡ x → [] ≡ bareStep x y b s → ([] ≡ bare s → Blanks s []) → Blanks (b ∷ s) []
+    which true y f g k = blank f (k g)
+    which false true f g k = never (cc g)
+    which false false f g k = never (cc g)
 
 -- The next byte, if it is no quote.
 pub next-byte : (c p : ℕ) (y s : List ℕ) → eqb c 34 ≡ false → c ∷ y ≡ bare s → wholeAfter p s ≡ true → (r : List ℕ) × Blanks s (c ∷ r) × (y ≡ bare r) × (wholeAfter c r ≡ true)

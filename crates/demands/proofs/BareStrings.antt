@@ -5,12 +5,12 @@ use mathlib.Core.List.{List, [], _∷_, _++_, append-assoc, append-cancel-right}
 use mathlib.Core.Bool.{Bool, true, false, cond}
 use native.Mathlib.Omega.{arith}
 use lib.Dec.{eqb}
-use Rattle.json.specs.Rows.{choose}
 use Rattle.json.specs.declared.string.InString.{InString}
 use Rattle.json.specs.declared.string.CharStep.the-variants.{Goes, Closes}
 use Rattle.json.specs.Grammar.{Char, ascii, two, three, threeE0, threeEd, fourth, fourF0, fourF4, short, unit, unitD, pair, Chars, close, char}
 use Rattle.spelling.proofs.Strings.{From, shuts, goes, chars-from, escaping, Seen, quiet, slash, skipped, quote, seen, seen-on}
 use Rattle.demands.specs.Blanks.{bare, bareQuoted, bareEscaped, wholeAfter, wholeQuoted, wholeEscaped}
+use Rattle.demands.proofs.BareBytes.{quotedStep}
 
 -- A string's bytes may stand before anything.
 char-on : {u s m : List ℕ} → Char u s m → (w : List ℕ) × (s ≡ w ++ m) × ((c : List ℕ) → Char u (w ++ c) c)
@@ -25,7 +25,8 @@ char-on (fourF4 {b = b} {c = c} {d = d} {e = f} e t v w) = (b ∷ c ∷ d ∷ f 
 char-on (short {e = f} e) = (92 ∷ f ∷ [], refl, λ _. short e)
 char-on (unit {h = h} {i = i} {j = j} {k = k} a b c d e) = (92 ∷ 117 ∷ h ∷ i ∷ j ∷ k ∷ [], refl, λ _. unit a b c d e)
 char-on (unitD {h = h} {i = i} {j = j} {k = k} a b c d) = (92 ∷ 117 ∷ h ∷ i ∷ j ∷ k ∷ [], refl, λ _. unitD a b c d)
-char-on (pair {h = h} {i = i} {j = j} {k = k} {l = l} {m = m} {n = n} {o = o} a b c d e f g v) = (92 ∷ 117 ∷ h ∷ i ∷ j ∷ k ∷ 92 ∷ 117 ∷ l ∷ m ∷ n ∷ o ∷ [], refl, λ _. pair a b c d e f g v)
+char-on (pair {h = h} {i = i} {j = j} {k = k} {l = l} {m = m} {n = n} {o = o} a b c d e f g v) =
+    (92 ∷ 117 ∷ h ∷ i ∷ j ∷ k ∷ 92 ∷ 117 ∷ l ∷ m ∷ n ∷ o ∷ [], refl, λ _. pair a b c d e f g v)
 
 chars-on : {cs s r : List ℕ} → Chars cs s r → (w : List ℕ) × (s ≡ w ++ r) × ((c : List ℕ) → Chars cs (w ++ c) c)
 chars-on close = (34 ∷ [], refl, λ _. close)
@@ -70,7 +71,7 @@ unfolding bare
 kept-first true d s = (bareQuoted s, refl)
 kept-first false d s = which (eqb d 34) (eqb d 92)
   where
-    which : (q r : Bool) → (y : List ℕ) × (choose q (λ _. d ∷ bare s) (λ _. choose r (λ _. d ∷ bareEscaped s) λ _. d ∷ bareQuoted s) ≡ d ∷ y)
+    which : (q r : Bool) → (y : List ℕ) × (quotedStep q r d s ≡ d ∷ y)
     which true r = (bare s, refl)
     which false true = (bareEscaped s, refl)
     which false false = (bareQuoted s, refl)
@@ -85,7 +86,8 @@ record SameString (x r s : List ℕ) : Type 0 where
   after-quote : wholeAfter 34 rest ≡ true
 
 one-more : {b d : ℕ} {x r s : List ℕ} → d ≡ b → SameString x r s → SameString (b ∷ x) r (d ∷ s)
-one-more {b} {s = s} q i = record { front = b ∷ i .front; rest = i .rest; was = ap (λ y. b ∷ y) (i .was); is = ap (λ m. m ∷ s) q ∙ ap (λ y. b ∷ y) (i .is); same = i .same; after-quote = i .after-quote }
+one-more {b} {s = s} q i =
+    record { front = b ∷ i .front; rest = i .rest; was = ap (λ y. b ∷ y) (i .was); is = ap (λ m. m ∷ s) q ∙ ap (λ y. b ∷ y) (i .is); same = i .same; after-quote = i .after-quote }
 
 from-same : {c : InString} {x r : List ℕ} → From c x r → (s : List ℕ) → kept c x ≡ kept c s → unparted c s ≡ true → SameString x r s
 from-same (shuts {c = c} {b = b} {r = r} e) [] h w =
@@ -114,10 +116,12 @@ from-same (goes {c = c} {n = n} {b = b} {s = t} e g) (d ∷ s) h w =
     let l = kept-on s x in
     one-more q (from-same g s (cc (k, l)) (sym (whole-on s x) ∙ rw q at w))
 
-again : {cs x r s : List ℕ} → SameString x r s → (w : List ℕ) × (x ≡ w ++ r) × ((c : List ℕ) → Chars cs (w ++ c) c) → (q : List ℕ) × Chars cs s q × (bare r ≡ bare q) × (wholeAfter 34 q ≡ true)
+again : {cs x r s : List ℕ} → SameString x r s → (w : List ℕ) × (x ≡ w ++ r) × ((c : List ℕ) → Chars cs (w ++ c) c)
+    → (q : List ℕ) × Chars cs s q × (bare r ≡ bare q) × (wholeAfter 34 q ≡ true)
 again {cs} {r = r} k o =
     let e : o .0 ≡ k .front = append-cancel-right (o .0) (k .front) r (sym (o .1) ∙ k .was) in
     (k .rest, subst (λ (y : List ℕ). Chars cs y (k .rest)) (ap (λ y. y ++ k .rest) e ∙ sym (k .is)) (o .2 (k .rest)), k .same, k .after-quote)
 
-pub chars-same : {cs x r : List ℕ} → Chars cs x r → (s : List ℕ) → bareQuoted x ≡ bareQuoted s → wholeQuoted s ≡ true → (q : List ℕ) × Chars cs s q × (bare r ≡ bare q) × (wholeAfter 34 q ≡ true)
+pub chars-same : {cs x r : List ℕ} → Chars cs x r → (s : List ℕ) → bareQuoted x ≡ bareQuoted s → wholeQuoted s ≡ true
+    → (q : List ℕ) × Chars cs s q × (bare r ≡ bare q) × (wholeAfter 34 q ≡ true)
 chars-same c s h w = again (from-same (chars-from c) s h w) (chars-on c)

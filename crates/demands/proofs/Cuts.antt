@@ -84,6 +84,7 @@ module _ (run : List ℕ) where
           let w = taken-text e in
           split textAtMost (placeIn run r) (λ h. ended-behind r e h) λ h.
           absurd (none (w .0) r (w .1) (omega (arith, ap length (w .1) ∙ length-append (w .0) r)) (w .2) (w .3))
+      -- the last of the first 32,768 bytes is at 32,767
       which (refused2 p) e = let h = fault-behind run (placeIn run p) 32767 (place-of-2-in-run run p e) (omega arith) b in refused-behind p (inl e) l (omega arith)
       which (refused3 p) e =
           split (placeIn run p) textAtMost (λ h. absurd (not-shallow run (placeIn run p) textAtMost (place-of-3-in-run run p e) s h)) λ h.

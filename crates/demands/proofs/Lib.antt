@@ -18,3 +18,6 @@ pub mod BareStrings
 pub mod Respaced
 pub mod WholeTexts
 pub mod BareAgain
+pub mod BlankPut
+pub mod RespacedRuns
+mod BlankExamples

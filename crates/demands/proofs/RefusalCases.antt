@@ -33,7 +33,8 @@ pub data Refusal (purpose : ℕ) (text : List ℕ) (n place : ℕ) : Type 0 wher
   of-depth : isUse purpose ≡ true → length text ≤ textAtMost → (p : Place) → oneObject text ≡ refused3 p → n ≡ 3 → placeIn text p ≡ place → Refusal purpose text n place
   of-visit : 4 ≤ n → n ≤ 16 → Refusal purpose text n place
 
-of-outcome : (start : List ℕ) (o : Outcome Posology) {n place : ℕ} → ((m : ℕ) (p : Place) → o ≡ refuse m p → (4 ≤ m) × (m ≤ 16)) → visited start o ≡ refused n place → (4 ≤ n) × (n ≤ 16)
+of-outcome : (start : List ℕ) (o : Outcome Posology) {n place : ℕ} → ((m : ℕ) (p : Place) → o ≡ refuse m p → (4 ≤ m) × (m ≤ 16)) → visited start o ≡ refused n place
+    → (4 ≤ n) × (n ≤ 16)
 of-outcome start (done p l) h e = never (cc e)
 of-outcome start (refuse m p) {n} h e = let q : m ≡ n = cc e in rw q at (h m p refl)
 
@@ -49,7 +50,9 @@ refused-by purpose room text {n} {place} h = go (isUse purpose) (leb (length tex
     walked (refused2 p) e u s g = of-spelling u s p e (cc g) (cc g)
     walked (refused3 p) e u s g = of-depth u s p e (cc g) (cc g)
 
-    go : (a b : Bool) → isUse purpose ≡ a → leb (length text) textAtMost ≡ b → choose a (λ _. choose b (λ _. afterWalk purpose room text (oneObject text)) λ _. refused 1 textAtMost) (λ _. refused 17 0) ≡ refused n place → Refusal purpose text n place
+    go : (a b : Bool) → isUse purpose ≡ a → leb (length text) textAtMost ≡ b
+        → choose a (λ _. choose b (λ _. afterWalk purpose room text (oneObject text)) λ _. refused 1 textAtMost) (λ _. refused 17 0) ≡ refused n place
+        → Refusal purpose text n place
     go true true e f g = walked (oneObject text) refl e (leb-true (length text) textAtMost f) g
     go true false e f g = of-length e (leb-false (length text) textAtMost f) (cc g) (cc g)
     go false b e f g = of-use e (cc g) (cc g)
@@ -62,7 +65,8 @@ pub data Cut (run : List ℕ) : Type 0 where
 pub data NextRefusal (purpose : ℕ) (run : List ℕ) (n place : ℕ) : Type 0 where
   of-use : isUse purpose ≡ false → n ≡ 17 → place ≡ 0 → NextRefusal purpose run n place
   of-length : isUse purpose ≡ true → (Blanks run [] → ⊥) → Cut run → n ≡ 1 → place ≡ textAtMost → NextRefusal purpose run n place
-  of-spelling : isUse purpose ≡ true → (Blanks run [] → ⊥) → (p : Place) → firstObject run ≡ refused2 p → Met run place → n ≡ 2 → placeIn run p ≡ place → NextRefusal purpose run n place
+  of-spelling : isUse purpose ≡ true → (Blanks run [] → ⊥) → (p : Place) → firstObject run ≡ refused2 p → Met run place → n ≡ 2 → placeIn run p ≡ place
+      → NextRefusal purpose run n place
   of-depth : isUse purpose ≡ true → (p : Place) → firstObject run ≡ refused3 p → Met run place → n ≡ 3 → placeIn run p ≡ place → NextRefusal purpose run n place
   of-visit : 4 ≤ n → n ≤ 16 → NextRefusal purpose run n place
 
@@ -89,7 +93,8 @@ next-refused-by purpose room run {n} {place} h = go (isUse purpose) refl h
     walked : (w : Walked) → firstObject run ≡ w → isUse purpose ≡ true → (Blanks run [] → ⊥) → nextWalked purpose room run w ≡ refusedAt n place → NextRefusal purpose run n place
     walked (end r) e u s g = ends (leb (placeIn run r) textAtMost) refl g
       where
-        ends : (b : Bool) → leb (placeIn run r) textAtMost ≡ b → choose b (λ _. upTo (placeIn run r) (readWalked purpose room run)) (λ _. refusedAt 1 textAtMost) ≡ refusedAt n place → NextRefusal purpose run n place
+        ends : (b : Bool) → leb (placeIn run r) textAtMost ≡ b
+            → choose b (λ _. upTo (placeIn run r) (readWalked purpose room run)) (λ _. refusedAt 1 textAtMost) ≡ refusedAt n place → NextRefusal purpose run n place
         ends true f i = let v = of-walked purpose room run (up-refused (placeIn run r) (readWalked purpose room run) i) in of-visit (v .0) (v .1)
         ends false f i = of-length u s (ended-behind r e (leb-false (placeIn run r) textAtMost f)) (cc i) (cc i)
     walked (refused2 p) e u s g =
@@ -134,7 +139,8 @@ blank-by purpose room run {n} h = go (isUse purpose) refl h
     begun [] e g = (rw e at (blanks-blanked run), cc g)
     begun (b ∷ s) e g = absurd (walked (firstObject run) g)
 
-    go : (b : Bool) → isUse purpose ≡ b → choose b (λ _. nextBegun purpose room run (blanked run)) (λ _. refusedAt 17 0) ≡ blankTo n → (isUse purpose ≡ true) × Blanks run [] × (n ≡ length run)
+    go : (b : Bool) → isUse purpose ≡ b → choose b (λ _. nextBegun purpose room run (blanked run)) (λ _. refusedAt 17 0) ≡ blankTo n
+        → (isUse purpose ≡ true) × Blanks run [] × (n ≡ length run)
     go true u g = let h = begun (blanked run) refl g in (u, h .0, h .1)
     go false u g = never (cc g)
 

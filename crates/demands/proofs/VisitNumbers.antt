@@ -83,8 +83,10 @@ optional-within s p (one v) h l = cond-within (v .absent s) (done none l) (prese
 optional-within s p twice h l = refl
 
 fields-within : {A : Type 0} (rows : Rows A) (p : Place) (es : List (Entry Value)) → WithinEntries es → (l : Left) → Within (fields rows p es l)
-fields-within (need n s k) p es h l = bind-within (needed s p (find (bytes n) es) l) _ (needed-within s p (find (bytes n) es) (find-within (bytes n) es h) l) λ x l′. fields-within (k x) p es h l′
-fields-within (may n s k) p es h l = bind-within (optional s p (find (bytes n) es) l) _ (optional-within s p (find (bytes n) es) (find-within (bytes n) es h) l) λ x l′. fields-within (k x) p es h l′
+fields-within (need n s k) p es h l =
+    bind-within (needed s p (find (bytes n) es) l) _ (needed-within s p (find (bytes n) es) (find-within (bytes n) es h) l) λ x l′. fields-within (k x) p es h l′
+fields-within (may n s k) p es h l =
+    bind-within (optional s p (find (bytes n) es) l) _ (optional-within s p (find (bytes n) es) (find-within (bytes n) es h) l) λ x l′. fields-within (k x) p es h l′
 fields-within (gives a) p es h l = tt
 fields-within (gives-if test a) p es h l = guard-within test 12 p (done a l) refl tt
 
@@ -100,7 +102,8 @@ body-within f t also p es h l =
 
 typed-within : (n : ℕ) (f : Family) (p : Place) (es : List (Entry Value)) → WithinEntries es → (l : Left) → Within (typed n f p es l)
 typed-within n f p es h l =
-    bind-within (needed (aNumber (integer 1 n)) p (find (bytes "t") es) l) _ (needed-within (aNumber (integer 1 n)) p (find (bytes "t") es) (find-within (bytes "t") es h) l) λ t l′.
+    bind-within (needed (aNumber (integer 1 n)) p (find (bytes "t") es) l) _
+    (needed-within (aNumber (integer 1 n)) p (find (bytes "t") es) (find-within (bytes "t") es h) l) λ t l′.
     guard-within (mayStand f t) 10 (placeOf p (find (bytes "t") es)) _ refl
     (guard-within (mayOpen f t) 14 (placeOf p (find (bytes "t") es)) _ refl
     (body-within f t (bytes "t" ∷ []) p es h l′))

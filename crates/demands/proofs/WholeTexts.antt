@@ -12,7 +12,7 @@ use Rattle.json.proofs.Truth.{and-both}
 use Rattle.moving.specs.Moving.{firstByte}
 use Rattle.spelling.proofs.Bytes.{apart, onward-numeric, numeric-not-blank}
 use Rattle.spelling.proofs.Strings.{chars-from, to-quote}
-use Rattle.demands.specs.Blanks.{bare, inWord, wholeAfter, wholeQuoted, wholeEscaped, whole}
+use Rattle.demands.specs.Blanks.{bare, inWord, mayPart, wholeAfter, wholeQuoted, wholeEscaped, whole}
 use Rattle.demands.proofs.BareBytes.{bare-blanks}
 
 -- Whatever stands before.
@@ -25,7 +25,7 @@ no-word-before a b e = rw e
 no-word-behind : (a b : Bool) → b ≡ false → not (a && b) ≡ true
 no-word-behind a b e = rw (e, and-false)
 
-whole-blank : (p b : ℕ) (s : List ℕ) → isBlank b ≡ true → not (inWord p && inWord (firstByte (bare s))) ≡ true → wholeAfter p s ≡ true → wholeAfter p (b ∷ s) ≡ true
+whole-blank : (p b : ℕ) (s : List ℕ) → isBlank b ≡ true → mayPart p (firstByte (bare s)) ≡ true → wholeAfter p s ≡ true → wholeAfter p (b ∷ s) ≡ true
 unfolding wholeAfter
 whole-blank p b s e f w = rw e (and-both f w)
 
