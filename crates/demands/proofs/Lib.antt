@@ -2,8 +2,25 @@
 pub mod Demand1
 pub mod Demand2
 pub mod Demand3
--- What they rest on
+pub mod Refusals
+pub mod BlanksBetween
+-- What an answer leaves
 pub mod Leaves
+-- Runs
 pub mod WholeRuns
 pub mod PlainRuns
 pub mod WrittenRuns
+-- Refusals by their numbers
+pub mod VisitNumbers
+pub mod RefusalCases
+pub mod Cuts
+pub mod RefusalsGiven
+-- Blanks between tokens
+pub mod BareBytes
+pub mod BareStrings
+pub mod Respaced
+pub mod WholeTexts
+pub mod BareAgain
+pub mod BlankPut
+pub mod RespacedRuns
+mod BlankExamples

@@ -25,7 +25,7 @@ use Rattle.spelling.proofs.Deeps.{first-deep, one-is-deep}
 begins-front : (u v : List ℕ) → Begins (u ++ v) → Begins u
 begins-front u v h = (v ++ h .0, h .1, rw append-assoc at (h .2))
 
-begins-take : (s : List ℕ) (i n : ℕ) → i ≤ n → Begins (take n s) → Begins (take i s)
+pub begins-take : (s : List ℕ) (i n : ℕ) → i ≤ n → Begins (take n s) → Begins (take i s)
 begins-take s i n l h = rw (take-take i n s l) at (begins-front (take i (take n s)) (drop i (take n s)) (rw take-append-drop h))
 
 module _ (s : List ℕ) where
