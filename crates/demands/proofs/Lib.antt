@@ -4,8 +4,9 @@ pub mod Demand2
 pub mod Demand3
 pub mod Refusals
 pub mod BlanksBetween
--- What an answer leaves
+-- What an answer leaves, and a table written and read
 pub mod Leaves
+pub mod TablesBack
 -- Runs
 pub mod WholeRuns
 pub mod PlainRuns
