@@ -21,7 +21,7 @@ use Rattle.document.specs.declared.table.Answer.the-variants as A
 use Rattle.document.specs.declared.table.Writing.{Writing}
 use Rattle.document.specs.declared.table.Writing.the-variants.{Written}
 use Rattle.demands.specs.Tables.{WrittenAndRead}
-use Rattle.demands.proofs.TablesBack.{written-and-read, call-back}
+use Rattle.demands.proofs.TablesBack.{written-and-read, promised-back}
 
 -- A text of at most 32,768 bytes is accepted exactly when it spells a valid posology whose strings fit the text room, and then as that posology.
 pub accepted-iff-spells : (purpose room : ℕ) (text : List ℕ) (p : Posology) → (read purpose room text ≡ taken p) ↔ ((length text ≤ textAtMost) × Valid purpose p × Spells text p × Fits room p)
@@ -55,4 +55,4 @@ table-written-and-read purpose t bytes u h = written-and-read purpose t bytes u 
 pub written-then-read : {purpose n : ℕ} {t : Table} {text before after strings strings′ : List ℕ} {w : Writing} {r : Reading}
     → Writes purpose t text before w after → w ≡ Written n → Reads purpose (take n after) strings r strings′ → t .text ≤ length strings
     → (r .answer ≡ A.Taken) × (r .table ≡ t) × (take (t .text) strings′ ≡ take (t .text) text)
-written-then-read a e b f = call-back a e b f
+written-then-read a e b f = promised-back a e b f

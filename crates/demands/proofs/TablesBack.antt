@@ -89,10 +89,10 @@ taken-leaves x p before {r} g e t l = (
   ap (take (length (strings p))) (l ∙ ap (λ (y : Read). bufferAfter y before) g) ∙ take-at (strings p) (drop (length (strings p)) before) (length (strings p)) refl,
 )
 
-pub call-back : {purpose n : ℕ} {t : Table} {bytes before after lent left : List ℕ} {w : Writing} {r : Reading}
+pub promised-back : {purpose n : ℕ} {t : Table} {bytes before after lent left : List ℕ} {w : Writing} {r : Reading}
     → Writes purpose t bytes before w after → w ≡ Written n → Reads purpose (take n after) lent r left → t .text ≤ length lent
     → (r .answer ≡ A.Taken) × (r .table ≡ t) × (take (t .text) left ≡ take (t .text) bytes)
-call-back {purpose} {n} {t} {bytes} {before} {after} {lent} {left} a e b f =
+promised-back {purpose} {n} {t} {bytes} {before} {after} {lent} {left} a e b f =
     let x = text-first (write purpose t bytes (length before)) before (sym (ap writingValues e) ∙ a .answer) (a .left) in
     let k = read-back purpose t bytes (x .text) (length before) (length lent) (x .is) f in
     let p = k .posology in

@@ -1,5 +1,5 @@
--- The hospital side: every call has one answer; what reading has laid out in the lent bytes, writing makes the plain text of, and what writing
--- wrote, reading lays out again.
+-- The hospital side: every call has one answer, and a refusal leaves all as lent; what reading has laid out in the lent bytes, writing makes
+-- the plain text of, and what writing wrote, reading lays out again.
 use Prim.Native.Nat.{ℕ, _≤_}
 use mathlib.Core.Path.{_≡_, sym, _∙_}
 use mathlib.Core.List.{List}
@@ -10,6 +10,9 @@ use Rattle.document.specs.Answer.{taken, bufferAfter, takenTo, nextBufferAfter}
 use Rattle.document.specs.Write.{writes, fitting}
 use Rattle.area.specs.Area.{areaBytes, tableIn}
 use Rattle.hospital.specs.Calls.{called, areaAfter, ReadsInto, calledNext, nextAreaAfter, ReadsNextInto, calledWrite, WritesFrom}
+use Rattle.hospital.proofs.TextCalls.{refused-leaves}
+use Rattle.hospital.proofs.RunCalls.{next-refused-leaves}
+use Rattle.hospital.proofs.WriteCalls.{write-refused-leaves}
 use Rattle.hospital.proofs.ReadWritten.{read-written, next-written}
 use Rattle.hospital.proofs.WrittenRead.{area-back, calls-back}
 
@@ -28,6 +31,21 @@ pub determined-posology-write : {purpose n n′ at at′ : ℕ} {area strings ou
     → WritesFrom purpose area strings out n at out₁ → WritesFrom purpose area strings out n′ at′ out₂
     → (n ≡ n′) × (at ≡ at′) × (out₁ ≡ out₂)
 determined-posology-write a b = (a .number ∙ sym (b .number), a .place ∙ sym (b .place), a .out-left ∙ sym (b .out-left))
+
+-- "a refusal leaves the area too as lent": where the number is not 0, each lent byte is as it was.
+pub refused-call-leaves-all : {purpose n at : ℕ} {text strings area strings′ area′ : List ℕ} → ReadsInto purpose text strings area n at strings′ area′ → (n ≡ 0 → ⊥)
+    → (strings′ ≡ strings) × (area′ ≡ area)
+refused-call-leaves-all {purpose} {text = text} {strings = strings} {area = area} a h =
+    refused-leaves (called purpose text (length strings) (length area)) text strings area (a .number) (a .strings-left) (a .area-left) h
+
+pub refused-next-call-leaves-all : {purpose n at : ℕ} {run strings area strings′ area′ : List ℕ} → ReadsNextInto purpose run strings area n at strings′ area′ → (n ≡ 0 → ⊥)
+    → (strings′ ≡ strings) × (area′ ≡ area)
+refused-next-call-leaves-all {purpose} {run = run} {strings = strings} {area = area} a h =
+    next-refused-leaves (calledNext purpose run (length strings) (length area)) strings area (a .number) (a .strings-left) (a .area-left) h
+
+pub refused-write-call-leaves-all : {purpose n at : ℕ} {area strings out out′ : List ℕ} → WritesFrom purpose area strings out n at out′ → (n ≡ 0 → ⊥) → out′ ≡ out
+refused-write-call-leaves-all {purpose} {area = area} {strings = strings} {out = out} a h =
+    write-refused-leaves (calledWrite purpose area strings (length out)) out (a .number) (a .out-left) h
 
 -- posology_read took a posology: posology_write, lent what it left, writes the posology's plain text, or asks for the room that it needs.
 pub read-then-written : (purpose : ℕ) (text strings area out : List ℕ) (p : Posology) → called purpose text (length strings) (length area) ≡ taken p

@@ -6,7 +6,7 @@ use lib.ListN.{length}
 use borrow.Author.Tests.{eq-eqb, ne-eqb}
 use Rattle.document.specs.Valid.{roomOf}
 use Rattle.document.specs.Values.{Values, nextValues}
-use Rattle.document.specs.Answer.{ReadNext, takenTo, blankTo, refusedAt, readNext, readNextValues, nextTableAfter}
+use Rattle.document.specs.Answer.{ReadNext, takenTo, blankTo, refusedAt, readNext, readNextValues, nextTableAfter, nextBufferAfter}
 use Rattle.document.specs.declared.table.NextAnswer.{NextAnswer}
 use Rattle.document.specs.declared.table.NextAnswer.the-variants as N
 use Rattle.document.specs.declared.table.Table.{Table}
@@ -32,6 +32,14 @@ module _ (area : List ℕ) where
   by-words w ws (N.Taken e) g = rw g
   by-words w ws (N.Blank n) g = refl
   by-words w ws (N.Refused n at) g = refl
+
+-- A number above 0, also that of only blanks, leaves all as lent.
+pub next-refused-leaves : (x : ReadNext) (strings area : List ℕ) {n : ℕ} {strings′ area′ : List ℕ} → n ≡ told (readNextValues x) .number → strings′ ≡ nextBufferAfter x strings → area′ ≡ nextAreaAfter x area
+    → (n ≡ 0 → ⊥) → (strings′ ≡ strings) × (area′ ≡ area)
+unfolding nextAreaAfter
+next-refused-leaves (takenTo p e) strings area f s a h = absurd (h f)
+next-refused-leaves (blankTo n) strings area f s a h = (s, a)
+next-refused-leaves (refusedAt n at) strings area f s a h = (s, a)
 
 module _ (purpose : ℕ) (run strings area : List ℕ) where
   pub other-size : (length area ≡ areaBytes → ⊥) → ReadsNextInto purpose run strings area 19 areaBytes strings area

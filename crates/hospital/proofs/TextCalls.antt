@@ -9,14 +9,14 @@ use lib.ListN.{length}
 use borrow.Author.Tests.{eq-eqb, ne-eqb}
 use Rattle.document.specs.Valid.{roomOf}
 use Rattle.document.specs.Values.{Values, accepted, number}
-use Rattle.document.specs.Answer.{Read, taken, refused, read, readValues, tableAfter}
+use Rattle.document.specs.Answer.{Read, taken, refused, read, readValues, tableAfter, bufferAfter}
 use Rattle.area.specs.Area.{areaBytes, areaOf}
 use Rattle.records.specs.declared.read.HeadRead.{HeadRead}
 use Rattle.building.specs.Built.{built}
 use Rattle.posology.specs.Reader.{WordsOf, ReadsWords}
 use Rattle.posology.proofs.Answers.{refused-values, taken-values, taken-table}
 use Rattle.telling.specs.Telling.{told}
-use Rattle.hospital.specs.Calls.{called, wholly, areaAfter, ReadsInto}
+use Rattle.hospital.specs.Calls.{called, wholly, toldRead, areaAfter, ReadsInto}
 
 pub laid-there : (n : ℕ) (a b : List ℕ) → n ≡ areaBytes → cond (eqb n areaBytes) a b ≡ a
 laid-there n a b h = rw (eq-eqb n areaBytes h)
@@ -31,6 +31,13 @@ laid : (area : List ℕ) (x : Read) → readValues x ≡ accepted → areaOf (ta
 unfolding areaAfter
 laid area (taken p) e = refl
 laid area (refused n at) e = let z : _≡_ {A = ℕ} 0 1 = cc in absurd (omega arith)
+
+-- A number above 0 leaves all as lent.
+pub refused-leaves : (x : Read) (text strings area : List ℕ) {n : ℕ} {strings′ area′ : List ℕ} → n ≡ toldRead text x .number → strings′ ≡ bufferAfter x strings → area′ ≡ areaAfter x area
+    → (n ≡ 0 → ⊥) → (strings′ ≡ strings) × (area′ ≡ area)
+unfolding areaAfter
+refused-leaves (taken p) text strings area e s a h = absurd (h e)
+refused-leaves (refused n at) text strings area e s a h = (s, a)
 
 module _ (purpose : ℕ) (text strings area : List ℕ) where
   pub other-size : (length area ≡ areaBytes → ⊥) → ReadsInto purpose text strings area 19 areaBytes strings area

@@ -7,13 +7,18 @@ use lib.ListN.{length}
 use borrow.Author.Tests.{eq-eqb, ne-eqb}
 use Rattle.document.specs.Valid.{isUse}
 use Rattle.document.specs.Values.{Values}
-use Rattle.document.specs.Write.{Write, write, writeValues, bufferAfter, Writes}
+use Rattle.document.specs.Write.{Write, writes, refuses, write, writeValues, bufferAfter, Writes}
 use Rattle.document.specs.declared.table.Table.{Table}
 use Rattle.document.specs.declared.table.Writing.{Writing}
 use Rattle.telling.specs.Telling.{told, toldWriting}
 use Rattle.telling.specs.declared.Told.{Told}
 use Rattle.area.specs.Area.{areaBytes, tableIn, isArea}
 use Rattle.hospital.specs.Calls.{calledWrite, WritesFrom}
+
+-- A number above 0 leaves the buffer as lent.
+pub write-refused-leaves : (x : Write) (out : List ℕ) {n : ℕ} {out′ : List ℕ} → n ≡ told (writeValues x) .number → out′ ≡ bufferAfter x out → (n ≡ 0 → ⊥) → out′ ≡ out
+write-refused-leaves (writes w) out e s h = absurd (h e)
+write-refused-leaves (refuses n at) out e s h = s
 
 module _ (purpose : ℕ) (area strings out : List ℕ) where
   pub other-size : (length area ≡ areaBytes → ⊥) → WritesFrom purpose area strings out 19 areaBytes out

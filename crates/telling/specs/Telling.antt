@@ -12,6 +12,7 @@ onlyBlanks = 255
 abbrev pub tells : ℕ → ℕ → Told
 tells n p = record { number = n; place = p }
 
+-- An acceptance is 0; one without a place of its own tells 0 there too.
 abbrev pub told : Values → Told
 told accepted = tells 0 0
 told (ends e) = tells 0 e
