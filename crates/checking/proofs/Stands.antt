@@ -1,25 +1,20 @@
 -- What a readable table is: that of one valid posology, whose words and strings stand first.
 use mathlib.Core.Path.{_≡_, refl, ap, sym, subst, _∙_}
 use mathlib.Core.List.{List, [], _++_}
-use mathlib.Core.Bool.{true, _&&_}
+use mathlib.Core.Bool.{true}
 use Prim.Native.Nat.{ℕ, _-_, _≤_}
 use native.Mathlib.Omega.{arith}
-use lib.Dec.{leb}
-use lib.ListN.{length, take, drop, replicate, take-append-drop}
-use borrow.Author.Tests.{leb-true}
-use Rattle.document.specs.Lookup.{same}
+use lib.ListN.{length, drop, replicate, take-append-drop}
 use Rattle.document.specs.Posology.{Posology}
 use Rattle.document.specs.Valid.{valid, detailRecords, strings}
 use Rattle.document.specs.Table.{noRecord, detailRows, tableOf}
-use Rattle.document.specs.Words.{allWords, rows, tableWords}
+use Rattle.document.specs.Words.{allWords, rows}
 use Rattle.document.specs.Untable.{posologyOf}
-use Rattle.document.specs.Write.{greatestRoom, isTableOf, readable}
+use Rattle.document.specs.Write.{readable}
 use Rattle.document.specs.declared.table.Table.{Table}
-use Rattle.json.proofs.Truth.{and-left, and-right}
 use Rattle.document.proofs.ValidParts.{few-records}
-use Rattle.document.proofs.WordsBack.{words-one}
 use Rattle.document.proofs.Untabled.{detail-length, filled-is}
-use Rattle.document.proofs.Same.{same-equal}
+use Rattle.document.proofs.Tables.{stands-for}
 use Rattle.words.specs.Standing.{Lies}
 use Rattle.words.proofs.Rowed.{rows-lie}
 use Rattle.checking.proofs.Laid.{all-length, front-lies}
@@ -41,31 +36,21 @@ unfolding tableOf
 records-of p few = let n = detail-length (p .po) 0 [] in filled-is 64 (detailRows (p .po) 0 []) (omega arith)
 
 pub readable-stands : (purpose : ℕ) (t : Table) (buffer : List ℕ) → length (t .records) ≡ 64 → readable purpose t buffer ≡ true → Standing purpose t buffer
-unfolding readable
-readable-stands purpose t buffer n h = go (posologyOf t buffer) refl h
-  where
-    go : (p : Posology) → posologyOf t buffer ≡ p → isTableOf purpose t buffer p ≡ true → Standing purpose t buffer
-    go p r g =
-        let fit = leb (length (strings p)) greatestRoom in
-        let words = same (tableWords (tableOf p)) (tableWords t) in
-        let bytes = same (strings p) (take (length (strings p)) buffer) in
-        let a = and-left (valid purpose p && fit && words) bytes g in
-        let b = and-left (valid purpose p && fit) words a in
-        let v = and-left (valid purpose p) fit b in
-        let few = few-records purpose p v in
-        let s = same-equal (strings p) (take (length (strings p)) buffer) (and-right (valid purpose p && fit && words) bytes g) in
-        let e : t ≡ tableOf p = sym (words-one (tableOf p) t (same-equal (tableWords (tableOf p)) (tableWords t) (and-right (valid purpose p && fit) words a))) in
-        let rs = detailRows (p .po) 0 [] in
-        let rest = replicate (64 - length rs) noRecord in
-        let all : Lies (rows (allWords (t .records))) 0 (allWords (t .records)) = rows-lie (rows (allWords (t .records))) (allWords (t .records)) [] 0 refl refl (omega (arith, all-length (t .records))) in
-        record {
-          is = p;
-          valid = v;
-          table = e;
-          read = r;
-          fits = leb-true (length (strings p)) greatestRoom (and-right (valid purpose p) fit b);
-          behind = drop (length (strings p)) buffer;
-          strings-first = sym (ap (λ x. x ++ drop (length (strings p)) buffer) s ∙ take-append-drop (length (strings p)) buffer);
-          lies = front-lies (rows (allWords (t .records))) 0 rs rest (subst (λ x. Lies (rows (allWords (t .records))) 0 (allWords x)) (ap (λ u. u .records) e ∙ records-of p few) all);
-          few = few;
-        }
+readable-stands purpose t buffer n h =
+    let s = stands-for purpose t buffer h in
+    let p = s .is in
+    let few = few-records purpose p (s .valid) in
+    let rs = detailRows (p .po) 0 [] in
+    let rest = replicate (64 - length rs) noRecord in
+    let all : Lies (rows (allWords (t .records))) 0 (allWords (t .records)) = rows-lie (rows (allWords (t .records))) (allWords (t .records)) [] 0 refl refl (omega (arith, all-length (t .records))) in
+    record {
+      is = p;
+      valid = s .valid;
+      table = sym (s .table);
+      read = s .read;
+      fits = s .fits;
+      behind = drop (length (strings p)) buffer;
+      strings-first = sym (ap (λ x. x ++ drop (length (strings p)) buffer) (sym (s .strings-first)) ∙ take-append-drop (length (strings p)) buffer);
+      lies = front-lies (rows (allWords (t .records))) 0 rs rest (subst (λ x. Lies (rows (allWords (t .records))) 0 (allWords x)) (ap (λ u. u .records) (sym (s .table)) ∙ records-of p few) all);
+      few = few;
+    }

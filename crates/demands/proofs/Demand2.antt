@@ -10,12 +10,18 @@ use Rattle.document.specs.Valid.{Valid, Fits, strings, isUse}
 use Rattle.document.specs.Spells.{Spells}
 use Rattle.document.specs.Table.{tableOf}
 use Rattle.document.specs.Plain.{plain}
-use Rattle.document.specs.Answer.{taken, read, textAtMost}
-use Rattle.document.specs.Write.{write, fitting, readable, greatestRoom}
+use Rattle.document.specs.Answer.{taken, read, textAtMost, Reads}
+use Rattle.document.specs.Write.{write, fitting, readable, greatestRoom, Writes}
 use Rattle.document.proofs.PlainTexts.{plain-reads}
 use Rattle.document.proofs.Tables.{one-of-table, own-written, readable-read, read-readable}
 use Rattle.document.proofs.Spelled.{accepted-spells, spelled-accepted, one-posology}
 use Rattle.document.specs.declared.table.Table.{Table}
+use Rattle.document.specs.declared.table.Reading.{Reading}
+use Rattle.document.specs.declared.table.Answer.the-variants as A
+use Rattle.document.specs.declared.table.Writing.{Writing}
+use Rattle.document.specs.declared.table.Writing.the-variants.{Written}
+use Rattle.demands.specs.Tables.{WrittenAndRead}
+use Rattle.demands.proofs.TablesBack.{written-and-read, call-back}
 
 -- A text of at most 32,768 bytes is accepted exactly when it spells a valid posology whose strings fit the text room, and then as that posology.
 pub accepted-iff-spells : (purpose room : ℕ) (text : List ℕ) (p : Posology) → (read purpose room text ≡ taken p) ↔ ((length text ≤ textAtMost) × Valid purpose p × Spells text p × Fits room p)
@@ -40,3 +46,13 @@ plain-is-one purpose room p behind v f = own-written purpose room p behind v f
 -- 18: exactly the tables and text bytes that no text reads to, for this use.
 pub table-valid-iff-readable : (purpose : ℕ) (t : Table) (bytes : List ℕ) → isUse purpose ≡ true → (readable purpose t bytes ≡ true) ↔ ((text : List ℕ) × (p : Posology) × (read purpose greatestRoom text ≡ taken p) × (tableOf p ≡ t) × (take (length (strings p)) bytes ≡ strings p))
 table-valid-iff-readable purpose t bytes u = (readable-read purpose t bytes u, read-readable purpose t bytes)
+
+-- "Every valid table is written as its one plain text if the buffer holds it, and reading that returns the table": by 18, "any other table is valid".
+pub table-written-and-read : (purpose : ℕ) (t : Table) (bytes : List ℕ) → isUse purpose ≡ true → readable purpose t bytes ≡ true → WrittenAndRead purpose t bytes
+table-written-and-read purpose t bytes u h = written-and-read purpose t bytes u h
+
+-- The same of what the functions promise: `write` wrote a table, and `read` reads what it wrote.
+pub written-then-read : {purpose n : ℕ} {t : Table} {text before after strings strings′ : List ℕ} {w : Writing} {r : Reading}
+    → Writes purpose t text before w after → w ≡ Written n → Reads purpose (take n after) strings r strings′ → t .text ≤ length strings
+    → (r .answer ≡ A.Taken) × (r .table ≡ t) × (take (t .text) strings′ ≡ take (t .text) text)
+written-then-read a e b f = call-back a e b f

@@ -5,3 +5,4 @@ pub mod Demand3
 -- What they rest on
 pub mod Leaves
 pub mod PlainRuns
+pub mod TablesBack

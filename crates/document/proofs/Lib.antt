@@ -38,4 +38,5 @@ pub mod Untables
 pub mod Strings
 pub mod Untabled
 pub mod Tables
+pub mod Numbered
 mod Calendar

@@ -14,11 +14,9 @@ use Rattle.document.specs.Posology.{Posology}
 use Rattle.document.specs.Visit.{Outcome, done, refuse, visit}
 use Rattle.document.specs.Valid.{isUse, roomOf, strings}
 use Rattle.document.specs.Table.{tableOf, emptyTable}
-use Rattle.document.specs.declared.table.Answer.{Answer}
-use Rattle.document.specs.declared.table.Answer.the-variants as A
+use Rattle.document.specs.Values.{Values, accepted, ends, blanksOnly, number, answerValues, nextValues}
+use Rattle.document.specs.declared.table.Table.{Table}
 use Rattle.document.specs.declared.table.Reading.{Reading}
-use Rattle.document.specs.declared.table.NextAnswer.{NextAnswer}
-use Rattle.document.specs.declared.table.NextAnswer.the-variants as N
 use Rattle.document.specs.declared.table.NextReading.{NextReading}
 
 abbrev pub textAtMost : ℕ
@@ -88,45 +86,40 @@ readNext purpose room run =
 abbrev pub laid : List ℕ → List ℕ → List ℕ
 laid bytes buffer = bytes ++ drop (length bytes) buffer
 
-abbrev pub reading : Read → Reading
-reading (taken p) = record { answer = A.Taken; table = tableOf p }
-reading (refused n place) = record { answer = A.Refused n place; table = emptyTable }
+abbrev pub readValues : Read → Values
+readValues (taken p) = accepted
+readValues (refused n place) = number n place
+
+abbrev pub tableAfter : Read → Table
+tableAfter (taken p) = tableOf p
+tableAfter (refused n place) = emptyTable
 
 abbrev pub bufferAfter : Read → List ℕ → List ℕ
 bufferAfter (taken p) buffer = laid (strings p) buffer
 bufferAfter (refused n place) buffer = buffer
 
-abbrev pub nextReading : ReadNext → NextReading
-nextReading (takenTo p e) = record { answer = N.Taken e; table = tableOf p }
-nextReading (blankTo n) = record { answer = N.Blank n; table = emptyTable }
-nextReading (refusedAt n place) = record { answer = N.Refused n place; table = emptyTable }
+abbrev pub readNextValues : ReadNext → Values
+readNextValues (takenTo p e) = ends e
+readNextValues (blankTo n) = blanksOnly n
+readNextValues (refusedAt n place) = number n place
+
+abbrev pub nextTableAfter : ReadNext → Table
+nextTableAfter (takenTo p e) = tableOf p
+nextTableAfter (blankTo n) = emptyTable
+nextTableAfter (refusedAt n place) = emptyTable
 
 abbrev pub nextBufferAfter : ReadNext → List ℕ → List ℕ
 nextBufferAfter (takenTo p e) buffer = laid (strings p) buffer
 nextBufferAfter (blankTo n) buffer = buffer
 nextBufferAfter (refusedAt n place) buffer = buffer
 
--- The promise of reading: result and buffer, for every text, use and buffer.
+-- The promise of reading: answer, table and buffer, for every text, use and buffer.
 pub record Reads (purpose : ℕ) (text before : List ℕ) (r : Reading) (after : List ℕ) : Type 0 where
-  pub result : r ≡ reading (read purpose (roomOf (length before)) text)
+  pub answer : answerValues (r .answer) ≡ readValues (read purpose (roomOf (length before)) text)
+  pub table : r .table ≡ tableAfter (read purpose (roomOf (length before)) text)
   pub left : after ≡ bufferAfter (read purpose (roomOf (length before)) text) before
 
 pub record ReadsNext (purpose : ℕ) (run before : List ℕ) (r : NextReading) (after : List ℕ) : Type 0 where
-  pub result : r ≡ nextReading (readNext purpose (roomOf (length before)) run)
+  pub answer : nextValues (r .answer) ≡ readNextValues (readNext purpose (roomOf (length before)) run)
+  pub table : r .table ≡ nextTableAfter (readNext purpose (roomOf (length before)) run)
   pub left : after ≡ nextBufferAfter (readNext purpose (roomOf (length before)) run) before
-
--- For each answer that is an enum, the document's number and values; an acceptance has none.
-pub data Values : Type 0 where
-  accepted : Values
-  ends : ℕ → Values
-  blanksOnly : ℕ → Values
-  number : ℕ → ℕ → Values
-
-abbrev pub answerValues : Answer → Values
-answerValues A.Taken = accepted
-answerValues (A.Refused n place) = number n place
-
-abbrev pub nextValues : NextAnswer → Values
-nextValues (N.Taken e) = ends e
-nextValues (N.Blank n) = blanksOnly n
-nextValues (N.Refused n place) = number n place

@@ -10,6 +10,7 @@ pub mod Valid
 pub mod Table
 pub mod Spell
 pub mod Plain
+pub mod Values
 pub mod Answer
 pub mod Words
 pub mod Untable

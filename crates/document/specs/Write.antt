@@ -13,14 +13,14 @@ use Rattle.document.specs.Table.{tableOf, noRecord}
 use Rattle.document.specs.Words.{tableWords}
 use Rattle.document.specs.Untable.{posologyOf}
 use Rattle.document.specs.Plain.{plain, plainThen}
-use Rattle.document.specs.Answer.{Values, ends, number, laid}
+use Rattle.document.specs.Answer.{laid}
+use Rattle.document.specs.Values.{Values, ends, number, writingValues}
 use Rattle.document.specs.declared.table.Table.{Table}
 use Rattle.document.specs.declared.table.Head.{Head}
 use Rattle.document.specs.declared.table.Text.{Text}
 use Rattle.document.specs.declared.table.Kind.{Kind}
 use Rattle.document.specs.declared.table.Kind.the-variants as K
 use Rattle.document.specs.declared.table.Writing.{Writing}
-use Rattle.document.specs.declared.table.Writing.the-variants.{Written, Refused}
 use Rattle.document.specs.declared.table.HeadText.{HeadText}
 use Rattle.document.specs.declared.table.HeadText.the-variants as H
 
@@ -54,9 +54,9 @@ write purpose t text room =
     refuses 18 0) λ _.
     refuses 17 0
 
-abbrev pub writing : Write → Writing
-writing (writes bytes) = Written (length bytes)
-writing (refuses n place) = Refused n place
+abbrev pub writeValues : Write → Values
+writeValues (writes bytes) = ends (length bytes)
+writeValues (refuses n place) = number n place
 
 abbrev pub bufferAfter : Write → List ℕ → List ℕ
 bufferAfter (writes bytes) buffer = laid bytes buffer
@@ -64,12 +64,8 @@ bufferAfter (refuses n place) buffer = buffer
 
 -- The promise of writing.
 pub record Writes (purpose : ℕ) (t : Table) (text before : List ℕ) (r : Writing) (after : List ℕ) : Type 0 where
-  pub result : r ≡ writing (write purpose t text (length before))
+  pub answer : writingValues r ≡ writeValues (write purpose t text (length before))
   pub left : after ≡ bufferAfter (write purpose t text (length before)) before
-
-abbrev pub writingValues : Writing → Values
-writingValues (Written n) = ends n
-writingValues (Refused n place) = number n place
 
 -- "the answer is that part of the lent text buffer itself"; where start and length don't lie in the buffer, the empty part at its start.
 abbrev pub lent : Text → List ℕ → List ℕ

@@ -1,4 +1,4 @@
--- "laying a table out and reading it back is proved both ways": every table has one layout, which is read back as that table; bytes are an
+-- A table laid out and read back, and bytes read and laid out again: every table has one layout, which is read back as that table; bytes are an
 -- area exactly where they are some table's layout.
 use Prim.Native.Nat.{ℕ, _*_}
 use mathlib.Core.Path.{_≡_, sym, ap, _∙_}

@@ -2,6 +2,7 @@ pub mod HospitalSide
 pub mod ReadFits
 mod ReadLaid
 pub mod ReadWritten
+pub mod WrittenRead
 pub mod RunCalls
 pub mod TextCalls
 pub mod WriteCalls

@@ -1,10 +1,7 @@
 // One posology text into the lent area.
 use crate::laying;
 use document::table::WORDS;
-ghost use mathlib.Core.Path.{_≡_};
-ghost use lib.ListN.{length};
-ghost use Rattle.document.specs.Answer.{bufferAfter};
-ghost use Rattle.hospital.specs.Calls.{called, number, place as placeOf, areaAfter};
+ghost use Rattle.hospital.specs.Calls.{ReadsInto};
 
 #[no_mangle]
 pub extern "C" fn posology_read(
@@ -14,10 +11,7 @@ pub extern "C" fn posology_read(
     table: &mut [u8],
     place: &mut u64,
 ) -> u64
-    ensures { λ r. ⌜ r ≡ number (called purpose (now (text .entry)) (length (now (strings .entry))) (length (now (table .entry)))) ⌝ }
-    ensures { λ _. ⌜ now (place .exit) ≡ placeOf (now (text .entry)) (called purpose (now (text .entry)) (length (now (strings .entry))) (length (now (table .entry)))) ⌝ }
-    ensures { λ _. ⌜ now (strings .exit) ≡ bufferAfter (called purpose (now (text .entry)) (length (now (strings .entry))) (length (now (table .entry)))) (now (strings .entry)) ⌝ }
-    ensures { λ _. ⌜ now (table .exit) ≡ areaAfter (called purpose (now (text .entry)) (length (now (strings .entry))) (length (now (table .entry)))) (now (table .entry)) ⌝ }
+    ensures { λ r. ⌜ ReadsInto purpose (now (text .entry)) (now (strings .entry)) (now (table .entry)) r (now (place .exit)) (now (strings .exit)) (now (table .exit)) ⌝ }
 {
     if table.len() != area::AREA {
         *place = area::AREA as u64;

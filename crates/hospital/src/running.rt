@@ -1,10 +1,7 @@
 // The first posology of a run into the lent area.
 use crate::laying;
 use document::table::WORDS;
-ghost use mathlib.Core.Path.{_≡_};
-ghost use lib.ListN.{length};
-ghost use Rattle.document.specs.Answer.{nextBufferAfter};
-ghost use Rattle.hospital.specs.Calls.{calledNext, nextNumber, nextPlace, nextAreaAfter};
+ghost use Rattle.hospital.specs.Calls.{ReadsNextInto};
 
 #[no_mangle]
 pub extern "C" fn posology_next(
@@ -14,10 +11,7 @@ pub extern "C" fn posology_next(
     table: &mut [u8],
     place: &mut u64,
 ) -> u64
-    ensures { λ r. ⌜ r ≡ nextNumber (calledNext purpose (now (run .entry)) (length (now (strings .entry))) (length (now (table .entry)))) ⌝ }
-    ensures { λ _. ⌜ now (place .exit) ≡ nextPlace (calledNext purpose (now (run .entry)) (length (now (strings .entry))) (length (now (table .entry)))) ⌝ }
-    ensures { λ _. ⌜ now (strings .exit) ≡ nextBufferAfter (calledNext purpose (now (run .entry)) (length (now (strings .entry))) (length (now (table .entry)))) (now (strings .entry)) ⌝ }
-    ensures { λ _. ⌜ now (table .exit) ≡ nextAreaAfter (calledNext purpose (now (run .entry)) (length (now (strings .entry))) (length (now (table .entry)))) (now (table .entry)) ⌝ }
+    ensures { λ r. ⌜ ReadsNextInto purpose (now (run .entry)) (now (strings .entry)) (now (table .entry)) r (now (place .exit)) (now (strings .exit)) (now (table .exit)) ⌝ }
 {
     if table.len() != area::AREA {
         *place = area::AREA as u64;

@@ -1,9 +1,6 @@
 // The table of the lent area as its plain text.
 use document::uses::is_use;
-ghost use mathlib.Core.Path.{_≡_};
-ghost use lib.ListN.{length};
-ghost use Rattle.document.specs.Write.{bufferAfter};
-ghost use Rattle.hospital.specs.Calls.{calledWrite, writeNumber, writePlace};
+ghost use Rattle.hospital.specs.Calls.{WritesFrom};
 
 #[no_mangle]
 pub extern "C" fn posology_write(
@@ -13,9 +10,7 @@ pub extern "C" fn posology_write(
     out: &mut [u8],
     place: &mut u64,
 ) -> u64
-    ensures { λ r. ⌜ r ≡ writeNumber (calledWrite purpose (now (table .entry)) (now (strings .entry)) (length (now (out .entry)))) ⌝ }
-    ensures { λ _. ⌜ now (place .exit) ≡ writePlace (calledWrite purpose (now (table .entry)) (now (strings .entry)) (length (now (out .entry)))) ⌝ }
-    ensures { λ _. ⌜ now (out .exit) ≡ bufferAfter (calledWrite purpose (now (table .entry)) (now (strings .entry)) (length (now (out .entry)))) (now (out .entry)) ⌝ }
+    ensures { λ r. ⌜ WritesFrom purpose (now (table .entry)) (now (strings .entry)) (now (out .entry)) r (now (place .exit)) (now (out .exit)) ⌝ }
 {
     if table.len() != area::AREA {
         *place = area::AREA as u64;

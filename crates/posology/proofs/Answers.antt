@@ -1,20 +1,19 @@
 -- The answer by what the head came to, and by what is settled before it.
 use Prim.Native.Nat.{ℕ, _≤_}
-use mathlib.Core.Path.{_≡_, sym, ap, subst, _∙_}
+use mathlib.Core.Path.{_≡_, refl, sym, ap, subst, _∙_}
 use mathlib.Core.List.{List}
 use mathlib.Core.Bool.{true, false}
 use native.Mathlib.Omega.{arith}
 use lib.ListN.{length}
 use Rattle.moving.specs.Read.{treeOf}
 use Rattle.spelling.proofs.Objects.{one-is-first}
-use Rattle.document.specs.Answer.{Read, taken, refused, visited, readWalked, read, reading, bufferAfter}
+use Rattle.document.specs.Values.{accepted, number}
+use Rattle.document.specs.Answer.{Read, taken, refused, visited, readWalked}
 use Rattle.document.specs.Posology.{Posology}
 use Rattle.document.specs.Schema.{aPosology}
 use Rattle.document.specs.Table.{emptyTable}
 use Rattle.document.specs.Valid.{roomOf, valid, strings}
 use Rattle.document.specs.Visit.{Outcome, done, members, entriesOf, visit}
-use Rattle.document.specs.declared.table.Answer.the-variants as A
-use Rattle.document.specs.declared.table.Table.{Table}
 use Rattle.document.proofs.Accepts.{taken-means}
 use Rattle.texts.specs.Texts.{oneText}
 use Rattle.texts.specs.declared.OneText.{OneText}
@@ -27,21 +26,27 @@ use Rattle.records.specs.declared.read.HeadRead.{HeadRead}
 use Rattle.building.specs.Built.{built, stringsLaid}
 use Rattle.building.proofs.Made.{table-made}
 use Rattle.building.proofs.Lays.{strings-laid}
-use Rattle.posology.specs.Reader.{Walked, readingOf, ReadsWords}
+use Rattle.posology.specs.Reader.{Walked, wordsValues, wordsTable, WordsOf, ReadsWords}
 use Rattle.posology.proofs.Standing.{Standing, visit-is}
 
--- The reading that a head and its words make, by whether it is refused.
+-- The values and the table that a head and its words make, by whether it is refused.
 module _ (h : HeadRead) (ws : List ℕ) where
-  pub made-refused : h .refused ≡ true → readingOf h ws ≡ record { answer = A.Refused (h .number) (h .place); table = emptyTable }
-  unfolding readingOf
-  made-refused e = rw e
+  pub refused-values : h .refused ≡ true → wordsValues h ≡ number (h .number) (h .place)
+  refused-values e = rw e
 
-  pub made-taken : h .refused ≡ false → readingOf h ws ≡ record { answer = A.Taken; table = built h ws }
-  unfolding readingOf
-  made-taken e = rw e
+  pub refused-table : h .refused ≡ true → wordsTable h ws ≡ emptyTable
+  unfolding wordsTable
+  refused-table e = rw e
 
-  pub refused-made : {n p : ℕ} → RefusedAt h n p → readingOf h ws ≡ reading (refused n p)
-  refused-made r = made-refused (r .refused) ∙ rw (r .number, r .place)
+  pub taken-values : h .refused ≡ false → wordsValues h ≡ accepted
+  taken-values e = rw e
+
+  pub taken-table : h .refused ≡ false → wordsTable h ws ≡ built h ws
+  unfolding wordsTable
+  taken-table e = rw e
+
+  pub refused-made : {n p : ℕ} (before : List ℕ) → RefusedAt h n p → WordsOf (refused n p) before h ws before
+  refused-made before r = record { answer = refused-values (r .refused) ∙ rw (r .number, r .place); table = refused-table (r .refused); left = refl }
 
 module _ (purpose : ℕ) (text before : List ℕ) (brace : ℕ) (s : Standing text brace) (h : HeadRead) (words : List ℕ) where
   abbrev room : ℕ
@@ -62,8 +67,10 @@ module _ (purpose : ℕ) (text before : List ℕ) (brace : ℕ) (s : Standing te
         ap (λ (o : Outcome Posology). visited text o) (visit-is purpose room text brace s ∙ r .outcome)
         ∙ ap (λ (n : ℕ). refused (h .number) n) (place-of text (h .place) (r .inside))
 
-    pub refused-reading : h .refused ≡ true → (readingOf h words ≡ reading (readWalked purpose room text)) × (before ≡ bufferAfter (readWalked purpose room text) before)
-    refused-reading e = (made-refused h words e ∙ ap (λ (x : Read). reading x) (sym (walked-refused e)), ap (λ (x : Read). bufferAfter x before) (sym (walked-refused e)))
+    pub refused-reading : h .refused ≡ true → WordsOf (readWalked purpose room text) before h words before
+    refused-reading e =
+        subst (λ (x : Read). WordsOf x before h words before) (sym (walked-refused e))
+        (record { answer = refused-values h words e; table = refused-table h words e; left = refl })
 
     module _ (e : h .refused ≡ false) where
       abbrev d : HeadDone text room all h words
@@ -81,23 +88,23 @@ module _ (purpose : ℕ) (text before : List ℕ) (brace : ℕ) (s : Standing te
       fits : length (strings (d .value)) ≤ room
       fits = omega (arith, d .fits, d .holds .taken)
 
-      -- The reading and the buffer of an acceptance.
-      pub taken-reading : readingOf h words ≡ reading (readWalked purpose room text)
-      taken-reading =
-          made-taken h words e ∙ ap (λ (x : Table). record { answer = A.Taken; table = x }) (table-made text purpose (d .value) h words (d .holds) walked-valid) ∙ ap (λ (r : Read). reading r) (sym walked-taken)
-
-      pub taken-buffer : {after : List ℕ} → after ≡ stringsLaid text h words before → after ≡ bufferAfter (readWalked purpose room text) before
-      taken-buffer e = e ∙ strings-laid text (d .value) h words (d .holds) before (omega (arith, fits)) ∙ ap (λ (r : Read). bufferAfter r before) (sym walked-taken)
+      pub taken-reading : {after : List ℕ} → after ≡ stringsLaid text h words before → WordsOf (readWalked purpose room text) before h words after
+      taken-reading {after} l =
+          subst (λ (x : Read). WordsOf x before h words after) (sym walked-taken)
+          (record {
+            answer = taken-values h words e;
+            table = taken-table h words e ∙ table-made text purpose (d .value) h words (d .holds) walked-valid;
+            left = l ∙ strings-laid text (d .value) h words (d .holds) before (omega (arith, fits));
+          })
 
 -- The promise of reading, by what is settled of the text.
 module _ (purpose : ℕ) (text before : List ℕ) (h : HeadRead) (ws : List ℕ) where
   abbrev lent : ℕ
   lent = roomOf (length before)
 
-  pub reads-on : {after : List ℕ} (s : OneText) → s ≡ oneText purpose text → readingOf h ws ≡ reading (readOn purpose lent text s) → after ≡ bufferAfter (readOn purpose lent text s) before → ReadsWords purpose text before h ws after
-  reads-on s e f g =
-      let on : readOn purpose lent text s ≡ read purpose lent text = ap (readOn purpose lent text) e ∙ sym (read-on purpose lent text) in
-      record { result = f ∙ ap (λ (x : Read). reading x) on; left = g ∙ ap (λ (x : Read). bufferAfter x before) on }
+  pub reads-on : {after : List ℕ} (s : OneText) → s ≡ oneText purpose text → WordsOf (readOn purpose lent text s) before h ws after
+      → ReadsWords purpose text before h ws after
+  reads-on {after} s e w = subst (λ (x : Read). WordsOf x before h ws after) (ap (readOn purpose lent text) e ∙ sym (read-on purpose lent text)) w
 
 pub text-walked : (purpose : ℕ) (text : List ℕ) → O.Walked ≡ oneText purpose text → Walked text
 text-walked purpose text e = let w = one-walked purpose text e in record { behind = w .0; takes = one-is-first text (w .0) (w .1) .0 }

@@ -1,14 +1,14 @@
--- The reading that the first posology of a run comes to, by its answer, its head and the words of its records.
+-- What the first posology of a run comes to, by its answer, its head and the words of its records.
 use Prim.Native.Nat.{ℕ}
 use mathlib.Core.Path.{_≡_}
 use mathlib.Core.List.{List}
 use lib.ListN.{length}
-use Rattle.document.specs.Answer.{readNext, nextReading, nextBufferAfter}
+use Rattle.document.specs.Values.{nextValues}
+use Rattle.document.specs.Answer.{ReadNext, readNext, readNextValues, nextTableAfter, nextBufferAfter}
 use Rattle.document.specs.Table.{emptyTable}
 use Rattle.document.specs.Valid.{roomOf}
 use Rattle.document.specs.declared.table.NextAnswer.{NextAnswer}
 use Rattle.document.specs.declared.table.NextAnswer.the-variants as N
-use Rattle.document.specs.declared.table.NextReading.{NextReading}
 use Rattle.document.specs.declared.table.Table.{Table}
 use Rattle.building.specs.Built.{built}
 use Rattle.posology.specs.declared.next.NextWords.{NextWords}
@@ -18,10 +18,15 @@ tableFor (N.Taken e) t = t
 tableFor (N.Blank n) t = emptyTable
 tableFor (N.Refused n p) t = emptyTable
 
-unfoldable pub nextReadingOf : NextWords → List ℕ → NextReading
+unfoldable pub nextWordsTable : NextWords → List ℕ → Table
 unfolding built
-nextReadingOf w ws = record { answer = w .answer; table = tableFor (w .answer) (built (w .head) ws) }
+nextWordsTable w ws = tableFor (w .answer) (built (w .head) ws)
 
-pub record ReadsNextWords (purpose : ℕ) (run before : List ℕ) (w : NextWords) (ws after : List ℕ) : Type 0 where
-  pub result : nextReadingOf w ws ≡ nextReading (readNext purpose (roomOf (length before)) run)
-  pub left : after ≡ nextBufferAfter (readNext purpose (roomOf (length before)) run) before
+-- They make what x says, and so do the bytes that are left.
+pub record NextWordsOf (x : ReadNext) (before : List ℕ) (w : NextWords) (ws after : List ℕ) : Type 0 where
+  pub answer : nextValues (w .answer) ≡ readNextValues x
+  pub table : nextWordsTable w ws ≡ nextTableAfter x
+  pub left : after ≡ nextBufferAfter x before
+
+abbrev pub ReadsNextWords : ℕ → List ℕ → List ℕ → NextWords → List ℕ → List ℕ → Type 0
+ReadsNextWords purpose run before w ws after = NextWordsOf (readNext purpose (roomOf (length before)) run) before w ws after

@@ -10,10 +10,12 @@ ghost use mathlib.Core.Path.{_≡_};
 ghost use mathlib.Core.List.{List};
 ghost use Prim.Native.Nat.{ℕ};
 ghost use lib.ListN.{length};
-ghost use Rattle.document.specs.Answer.{ReadsNext, refusedAt, nextReading, nextBufferAfter, upTo, readWalked};
+ghost use Rattle.document.specs.Values.{nextValues};
+ghost use Rattle.document.specs.Answer.{ReadsNext, refusedAt, readNextValues, upTo, readWalked};
+ghost use Rattle.document.specs.Table.{emptyTable};
 ghost use Rattle.document.specs.Valid.{roomOf};
 ghost use Rattle.posology.specs.Reader.{Walked};
-ghost use Rattle.posology.specs.Next.{nextReadingOf, ReadsNextWords};
+ghost use Rattle.posology.specs.Next.{nextWordsTable, NextWordsOf, ReadsNextWords};
 
 // The answer, and where a posology is taken its head and the words of its records.
 pub struct NextWords {
@@ -22,7 +24,8 @@ pub struct NextWords {
 }
 
 fn refused(number: u8, place: usize) -> NextWords
-    ensures { λ r. ⌜ ((ws : List ℕ) → nextReadingOf r ws ≡ nextReading (refusedAt number place)) ⌝ }
+    ensures { λ r. ⌜ nextValues (r .answer) ≡ readNextValues (refusedAt number place) ⌝ }
+    ensures { λ r. ⌜ ((ws : List ℕ) → nextWordsTable r ws ≡ emptyTable) ⌝ }
 {
     NextWords {
         answer: NextAnswer::Refused {
@@ -42,8 +45,7 @@ fn taken(
     words: &mut [u64; WORDS],
 ) -> NextWords
     requires { ⌜ Walked (now run) ⌝ }
-    ensures { λ r. ⌜ nextReadingOf r (now (words .exit)) ≡ nextReading (upTo e (readWalked purpose (roomOf (length (now (strings .entry)))) (now (run .entry)))) ⌝ }
-    ensures { λ _. ⌜ now (strings .exit) ≡ nextBufferAfter (upTo e (readWalked purpose (roomOf (length (now (strings .entry)))) (now (run .entry)))) (now (strings .entry)) ⌝ }
+    ensures { λ r. ⌜ NextWordsOf (upTo e (readWalked purpose (roomOf (length (now (strings .entry)))) (now (run .entry)))) (now (strings .entry)) r (now (words .exit)) (now (strings .exit)) ⌝ }
 {
     let h = reader::walked_words(run, purpose, strings, words);
     if h.refused {
@@ -75,7 +77,8 @@ pub fn next_words(
 }
 
 fn reading_of(w: NextWords, words: &[u64; WORDS]) -> NextReading
-    ensures { λ r. ⌜ r ≡ nextReadingOf w (now (words .entry)) ⌝ }
+    ensures { λ r. ⌜ r .answer ≡ w .answer ⌝ }
+    ensures { λ r. ⌜ r .table ≡ nextWordsTable w (now (words .entry)) ⌝ }
 {
     let answer = w.answer;
     let table = match answer {

@@ -14,10 +14,11 @@ use records::read::HeadRead;
 use texts::OneText;
 ghost use mathlib.Core.Path.{_≡_};
 ghost use lib.ListN.{length};
-ghost use Rattle.document.specs.Answer.{Reads, reading, readWalked, bufferAfter};
+ghost use Rattle.document.specs.Values.{answerValues};
+ghost use Rattle.document.specs.Answer.{Reads, readWalked};
 ghost use Rattle.document.specs.Table.{emptyTable, noText};
 ghost use Rattle.document.specs.Valid.{roomOf};
-ghost use Rattle.posology.specs.Reader.{Walked, readingOf, ReadsWords};
+ghost use Rattle.posology.specs.Reader.{Walked, wordsValues, wordsTable, WordsOf, ReadsWords};
 
 const ROOM: usize = 2048;
 
@@ -68,8 +69,7 @@ pub(crate) fn walked_words(
     words: &mut [u64; WORDS],
 ) -> HeadRead
     requires { ⌜ Walked (now text) ⌝ }
-    ensures { λ r. ⌜ readingOf r (now (words .exit)) ≡ reading (readWalked purpose (roomOf (length (now (strings .entry)))) (now (text .entry))) ⌝ }
-    ensures { λ _. ⌜ now (strings .exit) ≡ bufferAfter (readWalked purpose (roomOf (length (now (strings .entry)))) (now (text .entry))) (now (strings .entry)) ⌝ }
+    ensures { λ r. ⌜ WordsOf (readWalked purpose (roomOf (length (now (strings .entry)))) (now (text .entry))) (now (strings .entry)) r (now (words .exit)) (now (strings .exit)) ⌝ }
 {
     let brace = scan::byte::blanks_end(text, 0);
     let h = head::read_head(text, brace, purpose, room_of(strings), words);
@@ -96,7 +96,8 @@ pub fn read_words(
 }
 
 fn reading_of(r: HeadRead, words: &[u64; WORDS]) -> Reading
-    ensures { λ made. ⌜ made ≡ readingOf r (now (words .entry)) ⌝ }
+    ensures { λ made. ⌜ answerValues (made .answer) ≡ wordsValues r ⌝ }
+    ensures { λ made. ⌜ made .table ≡ wordsTable r (now (words .entry)) ⌝ }
 {
     if r.refused {
         return Reading {

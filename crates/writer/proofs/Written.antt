@@ -13,7 +13,8 @@ use Rattle.document.specs.Valid.{isUse, valid}
 use Rattle.document.specs.Words.{allWords, rows}
 use Rattle.document.specs.Untable.{posologyOf}
 use Rattle.document.specs.Plain.{plain, detailTree}
-use Rattle.document.specs.Write.{readable, writes, refuses, fitting, write, writing, bufferAfter, Writes}
+use Rattle.document.specs.Values.{ends, number}
+use Rattle.document.specs.Write.{readable, writes, refuses, fitting, write, writeValues, bufferAfter, Writes}
 use Rattle.document.specs.Answer.{laid}
 use Rattle.document.specs.declared.table.Table.{Table}
 use Rattle.document.specs.declared.table.Text.{Text}
@@ -54,12 +55,12 @@ fitting-by bytes before b e = ap (λ c. cond c (writes bytes) (refuses 19 (lengt
 pub fits : {bytes before after : List ℕ} {n : ℕ} → n ≡ length bytes → n ≤ length before → after ≡ laid bytes before → Fits bytes before (Written n) after
 fits {bytes} {before} e h l =
     let f = fitting-by bytes before true (le-leb (length bytes) (length before) (omega arith)) in
-    record { result = ap Written e ∙ sym (ap writing f); left = l ∙ sym (ap (λ w. bufferAfter w before) f) }
+    record { answer = ap ends e ∙ sym (ap writeValues f); left = l ∙ sym (ap (λ w. bufferAfter w before) f) }
 
 pub fits-not : {bytes before : List ℕ} {n : ℕ} → n ≡ length bytes → length before < n → Fits bytes before (Refused 19 n) before
 fits-not {bytes} {before} e h =
     let f = fitting-by bytes before false (lt-leb (length bytes) (length before) (omega arith)) in
-    record { result = ap (Refused 19) e ∙ sym (ap writing f); left = sym (ap (λ w. bufferAfter w before) f) }
+    record { answer = ap (number 19) e ∙ sym (ap writeValues f); left = sym (ap (λ w. bufferAfter w before) f) }
 
 piece-within : {buffer : List ℕ} {t : Text} {text u : ℕ} → PieceAt buffer t text u → Within buffer t
 piece-within (absent l s e) = omega arith
@@ -100,14 +101,14 @@ by purpose t buffer room a b e f = ap (λ x. choose x (λ _. choose (readable pu
 pub writes-fitting : (purpose : ℕ) (t : Table) (buffer : List ℕ) {before after : List ℕ} {r : Writing} → length (t .records) ≡ 64 → isUse purpose ≡ true → readable purpose t buffer ≡ true → Fits (headFields buffer (t .head) (detailTree (posologyOf t buffer .po)) []) before r after → Writes purpose t buffer before r after
 writes-fitting purpose t buffer {before} n used h f =
     let e = ap (fitting (length before)) (plainly purpose t buffer n h) ∙ sym (by purpose t buffer (length before) true true used h) in
-    record { result = f .result ∙ ap writing e; left = f .left ∙ ap (λ w. bufferAfter w before) e }
+    record { answer = f .answer ∙ ap writeValues e; left = f .left ∙ ap (λ w. bufferAfter w before) e }
 
 pub not-use : (purpose : ℕ) (t : Table) (buffer before : List ℕ) → isUse purpose ≡ false → Writes purpose t buffer before (Refused 17 0) before
 not-use purpose t buffer before e =
     let f = sym (by purpose t buffer (length before) false (readable purpose t buffer) e refl) in
-    record { result = ap writing f; left = ap (λ w. bufferAfter w before) f }
+    record { answer = ap writeValues f; left = ap (λ w. bufferAfter w before) f }
 
 pub not-readable : (purpose : ℕ) (t : Table) (buffer before : List ℕ) → isUse purpose ≡ true → readable purpose t buffer ≡ false → Writes purpose t buffer before (Refused 18 0) before
 not-readable purpose t buffer before e g =
     let f = sym (by purpose t buffer (length before) true false e g) in
-    record { result = ap writing f; left = ap (λ w. bufferAfter w before) f }
+    record { answer = ap writeValues f; left = ap (λ w. bufferAfter w before) f }

@@ -3,6 +3,7 @@ use mathlib.Core.Path.{ap, _∙_}
 use mathlib.Core.List.{List}
 use Prim.Native.Nat.{ℕ}
 use borrow.Author.Needs.{needs}
+use Rattle.document.specs.Values.{nextValues}
 use Rattle.hospital.specs.Calls.{laidNext}
 use Rattle.hospital.proofs.TextCalls.{laid-there}
 use Rattle.hospital.proofs.RunCalls.{other-size, next-read}
@@ -34,7 +35,7 @@ returns-2 c =
     let read = c .before .before .before .before .before .before .before .before .next-words in
     next-read (s .args .purpose) (s .args .run .now) (s .args .strings .now) (s .args .table .now) (read .result) _ left (read .ensures) (c .told-next .ensures)
     (c .before .before .before .lay-next .ensures
-    ∙ ap (λ (laid : List ℕ). laidNext (read .result .answer) laid (s .args .table .now)) (laid-there _ _ _ left))
+    ∙ ap (λ (laid : List ℕ). laidNext (nextValues (read .result .answer)) laid (s .args .table .now)) (laid-there _ _ _ left))
 
 pub posology-next-spec : {M : Type 1} → statement M
 posology-next-spec =

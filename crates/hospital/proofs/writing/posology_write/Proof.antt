@@ -40,7 +40,7 @@ returns-4 c =
     let an-area = sym (c .before .before .before .before .before .before .before .is-area .ensures) ∙ not-false _ (c .before .before .before .before .before .before .if3 .left) in
     let table = c .before .before .before .before .before .table-in in
     let write = c .before .before .before .write in
-    answered (s .args .purpose) (s .args .table .now) (s .args .strings .now) (s .args .out .now) (c .before .before .before .before .before .before .before .before .before .before .if1 .left) used (write .result) (write .last .1 .1 .1 .0) (table .result) (table .ensures) (c .told-writing .ensures) an-area (write .ensures .result) (write .ensures .left)
+    answered (s .args .purpose) (s .args .table .now) (s .args .strings .now) (s .args .out .now) (c .before .before .before .before .before .before .before .before .before .before .if1 .left) used (table .ensures) (c .told-writing .ensures) an-area (write .ensures)
 
 pub posology-write-spec : {M : Type 1} → statement M
 posology-write-spec =

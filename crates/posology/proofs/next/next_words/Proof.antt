@@ -37,19 +37,20 @@ returns c =
     let t = c .before .before in
     let f = t .before .before .before .before .before .before in
     let a = f .before .before .before .args in
-    reads-next (a .purpose) (a .run .now) (a .strings .now) _ (sym (t .before .before .before .before .e .given .1) ∙ f .first-text .ensures) (t .taken .ensures .0) (t .taken .ensures .1)
+    reads-next (a .purpose) (a .run .now) (a .strings .now) _ (sym (t .before .before .before .before .e .given .1) ∙ f .first-text .ensures) (t .taken .ensures)
 
 returns-2 : tie.Need-returns-2
 returns-2 c =
     let f = c .before .before .before .before in
     let a = f .before .before .before .args in
-    reads-next (a .purpose) (a .run .now) (a .strings .now) _ (sym (c .before .before .length .given .1) ∙ f .first-text .ensures) (blank-made _ _ refl) refl
+    reads-next (a .purpose) (a .run .now) (a .strings .now) _ (sym (c .before .before .length .given .1) ∙ f .first-text .ensures) (blank-made _ _ _ refl)
 
 returns-3 : tie.Need-returns-3
 returns-3 c =
     let f = c .before .before .before .before in
     let a = f .before .before .before .args in
-    reads-next (a .purpose) (a .run .now) (a .strings .now) _ (sym (c .before .before .number .given .1) ∙ f .first-text .ensures) (c .refused2 .ensures _) refl
+    reads-next (a .purpose) (a .run .now) (a .strings .now) _ (sym (c .before .before .number .given .1) ∙ f .first-text .ensures)
+    (record { answer = c .refused2 .ensures .0; table = c .refused2 .ensures .1 _; left = refl })
 
 pub next-words-spec : {M : Type 1} → statement M
 next-words-spec =

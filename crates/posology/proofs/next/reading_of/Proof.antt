@@ -1,4 +1,5 @@
 -- The reading, by its answer.
+use mathlib.Core.Path.{refl}
 use Rattle.posology.proofs.Runs.{of-answer}
 use borrow.Author.Needs.{needs}
 use Rattle.posology.proofs.next.reading_of.Statement.{statement}
@@ -23,13 +24,13 @@ empty-table-requires-2 : tie.Need-empty-table-requires-2
 empty-table-requires-2 c κs = search needs
 
 returns : tie.Need-returns
-returns c = of-answer (c .before .before .before .args .w) (c .before .before .before .args .words .now) (c .before .enum-told .given .1) (c .table-of .ensures)
+returns c = (refl, of-answer (c .before .before .before .args .w) (c .before .before .before .args .words .now) (c .before .enum-told .given .1) (c .table-of .ensures))
 
 returns-2 : tie.Need-returns-2
-returns-2 c = of-answer (c .before .before .before .args .w) (c .before .before .before .args .words .now) (c .before .enum-told2 .given .1) (c .empty-table .ensures)
+returns-2 c = (refl, of-answer (c .before .before .before .args .w) (c .before .before .before .args .words .now) (c .before .enum-told2 .given .1) (c .empty-table .ensures))
 
 returns-3 : tie.Need-returns-3
-returns-3 c = of-answer (c .before .before .before .args .w) (c .before .before .before .args .words .now) (c .before .enum-told3 .given .1) (c .empty-table2 .ensures)
+returns-3 c = (refl, of-answer (c .before .before .before .args .w) (c .before .before .before .args .words .now) (c .before .enum-told3 .given .1) (c .empty-table2 .ensures))
 
 pub reading-of-spec : {M : Type 1} → statement M
 reading-of-spec =

@@ -1,9 +1,8 @@
 -- The answer to the text, with the place behind it.
-use mathlib.Core.Path.{_∙_}
 use lib.ListN.{length}
 use Rattle.document.specs.Answer.{readWalked}
 use Rattle.document.specs.Valid.{roomOf}
-use Rattle.posology.proofs.Runs.{next-taken, next-refused, next-leaves}
+use Rattle.posology.proofs.Runs.{next-taken, next-refused}
 use borrow.Author.Needs.{needs}
 use Rattle.posology.proofs.next.taken.Statement.{statement}
 use Rattle.posology.proofs.next.taken.Tie as tie
@@ -22,7 +21,7 @@ returns c =
     let a = c .before .before .before .before .before .before .before .before .before .args in
     let q = c .before .before .before .before .walked-words .ensures in
     let w = readWalked (a .purpose) (roomOf (length (a .strings .now))) (a .run .now) in
-    (c .refused .ensures _ ∙ next-refused (a .e) w (c .before .before .before .before .walked-words .result) _ (q .0) (c .before .if1 .taken), q .1 ∙ next-leaves (a .e) w (a .strings .now))
+    next-refused (a .e) (c .before .before .before .before .walked-words .result) _ (a .strings .now) w (c .refused .result) q (c .before .if1 .taken) (c .refused .ensures .0) (c .refused .ensures .1 _)
 
 same-length-2 : tie.Need-same-length-2
 same-length-2 c = search needs
@@ -32,7 +31,7 @@ returns-2 c =
     let a = c .before .before .before .before .before .before .before .before .args in
     let q = c .before .before .before .walked-words .ensures in
     let w = readWalked (a .purpose) (roomOf (length (a .strings .now))) (a .run .now) in
-    (next-taken (a .e) w (c .before .before .before .walked-words .result) _ (q .0) (c .if1 .left), q .1 ∙ next-leaves (a .e) w (a .strings .now))
+    next-taken (a .e) (c .before .before .before .walked-words .result) _ (a .strings .now) w q (c .if1 .left)
 
 pub taken-spec : {M : Type 1} → statement M
 taken-spec =

@@ -14,7 +14,9 @@ same-length : tie.Need-same-length
 same-length c = search needs
 
 returns : tie.Need-returns
-returns c = record { result = c .reading-of .ensures ∙ c .before .before .before .before .read-words .ensures .result; left = c .before .before .before .before .read-words .ensures .left }
+returns c =
+    let words = c .before .before .before .before .read-words .ensures in
+    record { answer = c .reading-of .ensures .0 ∙ words .answer; table = c .reading-of .ensures .1 ∙ words .table; left = words .left }
 
 pub read-spec : {M : Type 1} → statement M
 read-spec = tie.close (tie.spec read-words-requires reading-of-requires same-length returns)

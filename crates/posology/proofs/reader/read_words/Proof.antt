@@ -1,5 +1,5 @@
 -- "Order: 17; 1; then the whole text for 2 and 3 .. Then objects in visiting order."
-use mathlib.Core.Path.{refl, sym, _∙_}
+use mathlib.Core.Path.{sym, _∙_}
 use borrow.Author.Needs.{needs}
 use Rattle.posology.proofs.Answers.{refused-made, reads-on, text-walked}
 use Rattle.posology.proofs.reader.read_words.Statement.{statement}
@@ -31,13 +31,13 @@ returns c =
     let w = c .before .before in
     let o = w .before .before .before .before .before in
     let a = o .before .before .before .args in
-    reads-on (a .purpose) (a .text .now) (a .strings .now) _ _ _ (sym (w .before .before .before .enum-told .given .1) ∙ o .one-text .ensures) (w .walked-words .ensures .0) (w .walked-words .ensures .1)
+    reads-on (a .purpose) (a .text .now) (a .strings .now) _ _ _ (sym (w .before .before .before .enum-told .given .1) ∙ o .one-text .ensures) (w .walked-words .ensures)
 
 returns-2 : tie.Need-returns-2
 returns-2 c =
     let o = c .before .before .before .before in
     let a = o .before .before .before .args in
-    reads-on (a .purpose) (a .text .now) (a .strings .now) _ _ _ (sym (c .before .before .number .given .1) ∙ o .one-text .ensures) (refused-made _ _ (c .refused .ensures)) refl
+    reads-on (a .purpose) (a .text .now) (a .strings .now) _ _ _ (sym (c .before .before .number .given .1) ∙ o .one-text .ensures) (refused-made _ _ _ (c .refused .ensures))
 
 pub read-words-spec : {M : Type 1} → statement M
 read-words-spec =

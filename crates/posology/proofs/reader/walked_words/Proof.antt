@@ -1,7 +1,7 @@
 -- A walked text is read: the head and all below it, then the strings are laid.
 use native.Mathlib.Omega.{arith}
 use Rattle.posology.proofs.Standing.{standing}
-use Rattle.posology.proofs.Answers.{at-room, refused-reading, taken-reading, taken-buffer}
+use Rattle.posology.proofs.Answers.{at-room, refused-reading, taken-reading}
 use borrow.Author.Needs.{needs}
 use Rattle.posology.proofs.reader.walked_words.Statement.{statement}
 use Rattle.posology.proofs.reader.walked_words.Tie as tie
@@ -45,7 +45,7 @@ returns-2 c =
     let stands = standing text (blanks .result) (c .before .before .before .before .before .before .before .before .before .before .before .before .before .pre .behind) (c .before .before .before .before .before .before .before .before .before .before .before .before .before .pre .takes) (blanks .ensures .lands) in
     let reads = at-room (s .purpose) text before (blanks .result) stands (h .result) _ (c .before .before .before .before .before .before .before .before .room-of .ensures) (h .ensures .reads (search needs) (blanks .ensures .inside (omega arith))) in
     let e = c .before .before .before .before .before .if1 .left in
-    (taken-reading (s .purpose) text before (blanks .result) stands (h .result) _ reads e, taken-buffer (s .purpose) text before (blanks .result) stands (h .result) _ reads e (c .before .before .lay-strings .ensures))
+    taken-reading (s .purpose) text before (blanks .result) stands (h .result) _ reads e (c .before .before .lay-strings .ensures)
 
 pub walked-words-spec : {M : Type 1} → statement M
 walked-words-spec =
