@@ -1,2 +1,5 @@
--- What the laws rest on
+-- Statements
+pub mod CheckProgram
+-- What they rest on
 pub mod Near
+pub mod Printed

@@ -1,5 +1,5 @@
 -- A refusal of reading stands at one of the first 32,768 bytes or behind them, one of writing at no more than the longest plain text.
-use mathlib.Core.Path.{_≡_, refl, ap, sym, _∙_}
+use mathlib.Core.Path.{_≡_, refl}
 use mathlib.Core.List.{List}
 use mathlib.Core.Bool.{Bool, true, false}
 use Prim.Native.Nat.{ℕ, _≤_}
