@@ -1,0 +1,5 @@
+-- Statements
+pub mod CheckProgram
+-- What they rest on
+pub mod Near
+pub mod Printed
