@@ -1,4 +1,4 @@
 // The check program.
 fn main() {
-    console::check();
+    lines::console::check();
 }

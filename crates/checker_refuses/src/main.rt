@@ -1,4 +1,4 @@
 // The check program, run on a text that is refused.
 fn main() {
-    console::check();
+    lines::console::check();
 }

@@ -1,4 +1,6 @@
 // The line that the check program prints of its input (document 01, "What the part does").
+pub mod console;
+
 use document::table::Answer;
 use document::table::Table;
 use document::table::Writing;

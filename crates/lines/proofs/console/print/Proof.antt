@@ -2,8 +2,8 @@
 use mathlib.Core.Path.{sym}
 use lib.Seq.{length-take-le}
 use borrow.Author.Needs.{needs}
-use Rattle.console.proofs.print.Statement.{statement}
-use Rattle.console.proofs.print.Tie as tie
+use Rattle.lines.proofs.console.print.Statement.{statement}
+use Rattle.lines.proofs.console.print.Tie as tie
 
 slice-aggregate-write-all : tie.Need-slice-aggregate-write-all
 slice-aggregate-write-all c = sym (length-take-le _ _ (c .before .if1 .taken))

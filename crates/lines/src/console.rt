@@ -1,4 +1,4 @@
-// Standard input answered on standard output (document 01, "What the part does"). What is printed is the line that `lines` promises of what was read.
+// Standard input answered on standard output (document 01, "What the part does"). What is printed is the line that `line` promises of what was read.
 
 fn print(line: &[u8], length: usize) {
     if length <= line.len() {
@@ -11,6 +11,6 @@ pub fn check() {
     let mut input = io::large_buffer();
     let mut line = io::large_buffer();
     let n = io::read_full(0, &mut input);
-    let length = lines::line(&input[..n], &mut line);
+    let length = crate::line(&input[..n], &mut line);
     print(&line, length);
 }
