@@ -1,14 +1,2 @@
--- What the proofs of several functions use.
-mod Pieces
-mod TimeTexts
-mod DosageTexts
-mod Dosages
-mod Listing
-mod Applications
-mod TimedTexts
-mod Days
-mod TimedDosages
-mod DetailTexts
-mod Details
-mod Objects
+-- What the proofs of several functions use, here and in writer.
 pub mod HeadParts

@@ -1,6 +1,5 @@
 // The fields of a posology around its detail, and the whole text (document 01, "Objects": Posology).
-use crate::detail;
-use crate::dosage;
+use details;
 use document::table::Date;
 use document::table::Head;
 use document::table::Text;
@@ -17,7 +16,7 @@ ghost use Rattle.document.specs.Valid.{ifGiven};
 ghost use Rattle.document.specs.Untable.{dateOf, zoneOf, mealOf, textOf};
 ghost use Rattle.document.specs.Plain.{dayText, timeText, zoneText};
 ghost use Rattle.putting.specs.Puts.{Puts};
-ghost use Rattle.plain.specs.Prints.{DetailPrints};
+ghost use Rattle.details.specs.Prints.{DetailPrints};
 ghost use Rattle.plain.specs.Heads.{dateField, reserveField, mealField, textField, stringFields, frontFields, headFields, Within, Writable};
 
 fn put_day(out: &mut [u8], from: usize, year: u16, month: u8, day: u8) -> usize
@@ -92,7 +91,7 @@ fn put_meal(out: &mut [u8], from: usize, meal: u8) -> usize
     if meal == 0 {
         return from;
     }
-    dosage::put_integer(out, from, b",\"relMeal\":", meal as u64)
+    details::put_integer(out, from, b",\"relMeal\":", meal as u64)
 }
 
 // `name` is all in front of the string's quote.
@@ -103,7 +102,7 @@ fn put_text(out: &mut [u8], from: usize, name: &[u8], buffer: &[u8], t: Text) ->
         return from;
     }
     let at = putting::put_all(out, from, name);
-    let text = detail::part(buffer, t.start as u64, t.len as u64);
+    let text = details::part(buffer, t.start as u64, t.len as u64);
     quoting::put_string(out, at, text)
 }
 
@@ -132,15 +131,12 @@ fn put_front(out: &mut [u8], h: Head) -> usize
     putting::put_all(out, at, b"\"po\":")
 }
 
-// "at most 3 sequences inside one another"
-const SEQUENCES: usize = 3;
-
 // The whole text from the buffer's start on, as far as it reaches; the answer is the text's length.
 pub fn put_posology(out: &mut [u8], h: Head, words: &[u64], buffer: &[u8]) -> usize
     ensures { λ r. ⌜ ((t : Tree) → Writable (now (buffer .entry)) h → DetailPrints (now (words .entry)) (now (buffer .entry)) 3 0 t → Puts (now (out .entry)) 0 (headFields (now (buffer .entry)) h t []) [] r (now (out .exit))) ⌝ }
 {
     let at = put_front(out, h);
-    let at = detail::put_detail(words, 0, SEQUENCES, buffer, out, at);
+    let at = details::put_po(words, buffer, out, at);
     let at = put_meal(out, at, h.meal);
     let at = put_strings(out, at, buffer, h);
     putting::put(out, at, b'}')

@@ -1,8 +1,4 @@
 // The plain text of a posology put into a buffer, field by field (document 01, "The plain text").
-mod detail;
-mod dosage;
 mod head;
-mod record;
-mod timed;
 
 pub use head::put_posology;

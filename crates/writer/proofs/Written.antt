@@ -28,7 +28,7 @@ use Rattle.checking.proofs.Read.{readable-laid}
 use Rattle.document.proofs.ValidParts.{valid-parts}
 use Rattle.checking.proofs.Stands.{readable-stands}
 use Rattle.putting.specs.Puts.{greatestPlace, upTo, Puts}
-use Rattle.plain.specs.Prints.{DetailPrints}
+use Rattle.details.specs.Prints.{DetailPrints}
 use Rattle.plain.specs.Heads.{headFields, Within, Writable}
 use Rattle.writer.specs.Fits.{Fits}
 use Rattle.writer.proofs.PrintedDetail.{detail-prints}

@@ -11,7 +11,7 @@ ghost use lib.ListN.{length};
 ghost use Rattle.json.specs.Tree.{Tree};
 ghost use Rattle.document.specs.Write.{Writes};
 ghost use Rattle.putting.specs.Puts.{greatestPlace};
-ghost use Rattle.plain.specs.Prints.{DetailPrints};
+ghost use Rattle.details.specs.Prints.{DetailPrints};
 ghost use Rattle.plain.specs.Heads.{headFields, Writable};
 ghost use Rattle.writer.specs.Fits.{Fits};
 

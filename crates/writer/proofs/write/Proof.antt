@@ -5,7 +5,7 @@ use borrow.Author.Needs.{needs}
 use borrow.Author.Tests.{not-true, not-false}
 use Rattle.document.specs.Untable.{posologyOf}
 use Rattle.document.specs.Plain.{detailTree}
-use Rattle.plain.specs.Prints.{DetailPrints}
+use Rattle.details.specs.Prints.{DetailPrints}
 use Rattle.writer.proofs.Written.{writable, prints, short, writes-fitting, not-use, not-readable}
 use Rattle.writer.proofs.write.Statement.{statement}
 use Rattle.writer.proofs.write.Tie as tie

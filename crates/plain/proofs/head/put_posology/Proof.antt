@@ -7,8 +7,8 @@ use Rattle.plain.proofs.head.put_posology.Tie as tie
 put-front-requires : tie.Need-put-front-requires
 put-front-requires c κs = search needs
 
-put-detail-requires : tie.Need-put-detail-requires
-put-detail-requires c κs = search needs
+put-po-requires : tie.Need-put-po-requires
+put-po-requires c κs = search needs
 
 put-meal-requires : tie.Need-put-meal-requires
 put-meal-requires c κs = search needs
@@ -29,7 +29,7 @@ returns c t w p =
     let meal = strings .before .before .before .before in
     let detail = meal .before .before .before .before in
     let front = detail .before .before .before .before in
-    puts-then (front .put-front .ensures _ (w .from) (w .to)) (puts-then (detail .put-detail .ensures t _ p)
+    puts-then (front .put-front .ensures _ (w .from) (w .to)) (puts-then (detail .put-po .ensures t _ p)
     (puts-then (meal .put-meal .ensures _) (puts-then (strings .put-strings .ensures _ w) (last .put .ensures []))))
 
 pub put-posology-spec : {M : Type 1} → statement M
@@ -37,7 +37,7 @@ put-posology-spec =
     tie.close
     (tie.spec
     put-front-requires
-    put-detail-requires
+    put-po-requires
     put-meal-requires
     put-strings-requires
     put-requires

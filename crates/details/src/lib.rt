@@ -1,0 +1,9 @@
+// The plain text of a posology's detail put into a buffer, object by object (document 01, "The plain text").
+mod detail;
+mod dosage;
+mod record;
+mod timed;
+
+pub use detail::part;
+pub use detail::put_po;
+pub use dosage::put_integer;
