@@ -1,5 +1,5 @@
 -- `dosages::timed::timed_field` meets its contract: a timed dosage that must be there, by its type.
-use mathlib.Core.Path.{_≡_, refl, _∙_}
+use mathlib.Core.Path.{refl, _∙_}
 use native.Mathlib.Omega.{arith}
 use Rattle.document.specs.Schema.{aTimed}
 use Rattle.records.specs.Under.{typesUnder}
