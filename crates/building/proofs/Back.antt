@@ -18,7 +18,7 @@ use Rattle.document.specs.declared.table.Kind.the-variants as K
 use Rattle.document.specs.declared.table.Record.{Record}
 use Rattle.kinds.specs.Kinds.{kindOf, recordIn, groups}
 use Rattle.building.specs.Built.{recordsOf}
-use Rattle.visits.specs.Visiting.{DetailRows, ObjectRows, ObjectsRows}
+use Rattle.visits.specs.Rows.{DetailRows, ObjectRows, ObjectsRows}
 use Rattle.document.proofs.DetailParts.{from-to-parts, first-time, first-segment, dosage-only-parts, times-parts, segments-parts, week-parts, month-parts, interval-parts, cyclic-parts, sequence-parts, posology-sequence-parts, pause-parts, objects-parts}
 use Rattle.building.proofs.Carried.{duration-carried, unit-carried, small-carried, days-carried}
 

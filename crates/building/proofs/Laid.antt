@@ -18,7 +18,7 @@ use Rattle.document.specs.Table.{daySet, dosageRow, timesRows, segmentsRows, ti
 use Rattle.document.specs.Valid.{timedRecords, detailRecords, objectRecords, objectsRecords, joined, detailStrings, objectStrings, objectsStrings}
 use Rattle.document.specs.Words.{Words, words, recordWords, row, rows, allWords}
 use Rattle.building.specs.Built.{laidRow, laidRows, laidPiece, countOf, stringsLaid}
-use Rattle.visits.specs.Visiting.{DetailRows, ObjectRows, ObjectsRows}
+use Rattle.visits.specs.Rows.{DetailRows, ObjectRows, ObjectsRows}
 use Rattle.records.specs.declared.read.Piece.{Piece}
 use Rattle.records.specs.declared.read.HeadRead.{HeadRead}
 use Rattle.document.proofs.Untables.{joined-append, object-append}

@@ -20,7 +20,8 @@ use Rattle.document.specs.declared.table.Date.{Date}
 use Rattle.document.specs.At.{Slot}
 use Rattle.names.specs.Names.{Once, nameAt}
 use Rattle.fields.specs.Fields.{Refuses, Given, ReadsGiven, ReadsOptional}
-use Rattle.visits.specs.Visiting.{leftOf, Did, VisitedIn, DetailAt, VisitsNeededIn}
+use Rattle.dosages.specs.Visiting.{leftOf, Did, VisitedIn}
+use Rattle.visits.specs.Rows.{DetailAt, VisitsNeededIn}
 use Rattle.visits.specs.Detail.{noneUsed}
 use Rattle.heads.specs.Heads.{HeadReads}
 use Rattle.heads.specs.HeadRows.{stringRows, poRows, Begun, ReadsStrings}
@@ -31,7 +32,7 @@ use Rattle.records.specs.declared.read.HeadRead.{HeadRead}
 use Rattle.records.specs.declared.rows.Used.{Used}
 use Rattle.records.specs.declared.rows.Visit.{Visit}
 use Rattle.records.specs.declared.rows.Visit.the-variants as Vs
-use Rattle.visits.proofs.Bodies.{refuses-as, refuses-bind, done-bind}
+use Rattle.dosages.proofs.Bodies.{refuses-as, refuses-bind, done-bind}
 use Rattle.visits.proofs.Sequences.{detail-length}
 use Rattle.heads.proofs.Meals.{given-most}
 

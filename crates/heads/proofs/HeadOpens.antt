@@ -18,7 +18,7 @@ use Rattle.document.specs.At.{At, Slot}
 use Rattle.names.specs.Names.{Once, nameAt, rowNames, Tells}
 use Rattle.fields.specs.Fields.{Refuses, Dated, Given, ReadsDate, ReadsFlag, ReadsGiven, flagNumber}
 use Rattle.opening.specs.Opens.{OpensAs}
-use Rattle.visits.specs.Visiting.{leftOf}
+use Rattle.dosages.specs.Visiting.{leftOf}
 use Rattle.visits.specs.Detail.{noneUsed}
 use Rattle.heads.specs.Heads.{HeadReads}
 use Rattle.heads.specs.HeadRows.{poRows, ReadsFromDetail}
@@ -30,7 +30,7 @@ use Rattle.fields.specs.declared.field.DateField.{DateField}
 use Rattle.fields.specs.declared.field.DateField.the-variants as D
 use Rattle.records.specs.declared.read.HeadRead.{HeadRead}
 use Rattle.opening.specs.declared.opened.Opened.{Opened}
-use Rattle.visits.proofs.Bodies.{object-at, refuses-as, refuses-bind, done-bind}
+use Rattle.dosages.proofs.Bodies.{object-at, refuses-as, refuses-bind, done-bind}
 use Rattle.heads.proofs.HeadDetail.{head-as}
 
 -- The names of the head's rows by their numbers.

@@ -18,7 +18,7 @@ use Rattle.document.specs.Visit.{Outcome, done, guard, Value, optional, fields}
 use Rattle.document.specs.At.{Slot}
 use Rattle.names.specs.Names.{Once, nameAt}
 use Rattle.fields.specs.Fields.{Refuses, ReadsOptionalText}
-use Rattle.visits.specs.Visiting.{leftOf}
+use Rattle.dosages.specs.Visiting.{leftOf}
 use Rattle.visits.specs.Holding.{PieceOf}
 use Rattle.heads.specs.Heads.{HeadReads, RefusedAt}
 use Rattle.heads.specs.HeadRows.{moaRows, roaRows, instrRows, stringRows, unitRead, ReadsUnit, pieceAt, Begun}
@@ -27,7 +27,7 @@ use Rattle.fields.specs.declared.field.Worded.the-variants as W
 use Rattle.records.specs.declared.read.Piece.{Piece}
 use Rattle.records.specs.declared.read.HeadRead.{HeadRead}
 use Rattle.document.proofs.Strings.{strings-size}
-use Rattle.visits.proofs.Bodies.{refuses-as, refuses-bind, done-bind}
+use Rattle.dosages.proofs.Bodies.{refuses-as, refuses-bind, done-bind}
 use Rattle.heads.proofs.Pieces.{left, Took, took, unit-row}
 
 -- A refusal of the head.

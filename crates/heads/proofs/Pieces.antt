@@ -18,7 +18,7 @@ use Rattle.document.specs.Schema.{Rows, unitIf, aText}
 use Rattle.document.specs.Table.{lengthOf}
 use Rattle.document.specs.Visit.{Left, roomLess, Outcome, done, refuse, bind, present, Value, needed, fields}
 use Rattle.fields.specs.Fields.{Perhaps, ReadsText, ReadsOptionalText}
-use Rattle.visits.specs.Visiting.{leftOf}
+use Rattle.dosages.specs.Visiting.{leftOf}
 use Rattle.visits.specs.Holding.{PieceOf}
 use Rattle.heads.specs.HeadRows.{unitRead, ReadsUnit, pieceAt}
 use Rattle.fields.specs.declared.field.Worded.{Worded}

@@ -18,7 +18,8 @@ use Rattle.document.specs.declared.table.Date.{Date}
 use Rattle.document.specs.At.{Slot}
 use Rattle.names.specs.Names.{Once}
 use Rattle.fields.specs.Fields.{Refuses, Perhaps}
-use Rattle.visits.specs.Visiting.{leftOf, DetailRows}
+use Rattle.dosages.specs.Visiting.{leftOf}
+use Rattle.visits.specs.Rows.{DetailRows}
 use Rattle.visits.specs.Detail.{noneUsed}
 use Rattle.heads.specs.Heads.{HeadReads}
 use Rattle.fields.specs.declared.field.Worded.{Worded}

@@ -10,7 +10,7 @@ use Rattle.document.specs.Schema.{aPosology}
 use Rattle.document.specs.Visit.{Outcome, done, members, entriesOf}
 use Rattle.document.specs.At.{At}
 use Rattle.fields.specs.Fields.{Refuses}
-use Rattle.visits.specs.Visiting.{leftOf}
+use Rattle.dosages.specs.Visiting.{leftOf}
 use Rattle.visits.specs.Holding.{Holds}
 use Rattle.visits.specs.Detail.{noneUsed}
 use Rattle.records.specs.declared.read.HeadRead.{HeadRead}

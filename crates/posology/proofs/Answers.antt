@@ -20,7 +20,7 @@ use Rattle.texts.specs.declared.OneText.{OneText}
 use Rattle.texts.specs.declared.OneText.the-variants as O
 use Rattle.texts.proofs.Onward.{readOn, read-on, one-walked}
 use Rattle.json.proofs.Places.{place-of}
-use Rattle.visits.specs.Visiting.{leftOf}
+use Rattle.dosages.specs.Visiting.{leftOf}
 use Rattle.heads.specs.Heads.{HeadDone, HeadReads, ReadsHead, RefusedAt}
 use Rattle.records.specs.declared.read.HeadRead.{HeadRead}
 use Rattle.building.specs.Built.{built, stringsLaid}

@@ -19,7 +19,7 @@ use Rattle.document.specs.Visit.{Value, entriesOf, members, visit}
 use Rattle.document.proofs.Sound.{Utf8Tree}
 use Rattle.document.proofs.Utf8Texts.{value-utf8}
 use Rattle.document.specs.At.{At}
-use Rattle.visits.specs.Visiting.{leftOf}
+use Rattle.dosages.specs.Visiting.{leftOf}
 
 -- What the walk tells of a text.
 pub record Standing (text : List ℕ) (brace : ℕ) : Type 0 where

@@ -24,9 +24,12 @@ use Rattle.document.specs.Visit.{Left, roomLess, Outcome, done, refuse, bind, n
 use Rattle.document.specs.Words.{row, words}
 use Rattle.names.specs.Names.{rowNames, nameAt, names as allNames, Tells}
 use Rattle.fields.specs.Fields.{Refuses, Reads, ReadsAt, ReadsNeeded, Given, ReadsGiven, ReadsOptional, Listing, FindsList, ListNeeded, Texted, ReadsText, Child, FindsObject, ObjectNeeded}
-use Rattle.visits.specs.Visiting.{leftOf, RowsIn, Did, VisitedIn, VisitsNeeded, VisitsBodyIn, TimedRows, DetailRows, DetailAt, Ready}
+use Rattle.dosages.specs.Visiting.{leftOf, RowsIn, Did, VisitedIn, VisitsNeeded, TimedRows, Ready}
+use Rattle.visits.specs.Rows.{VisitsBodyIn, DetailRows, DetailAt}
 use Rattle.records.specs.Records.{more}
-use Rattle.visits.specs.Kept.{Grown}
+use Rattle.dosages.specs.Kept.{Grown, Kept}
+use Rattle.dosages.specs.Timed.{AnswersTimed}
+use Rattle.records.specs.Under.{typesUnder}
 use Rattle.visits.specs.Room.{KeptIn}
 use Rattle.visits.specs.Fours.{FourIn}
 use Rattle.opening.specs.declared.opened.Opened.{Opened}
@@ -37,15 +40,15 @@ use Rattle.names.specs.declared.Unknown.{Unknown}
 use Rattle.names.specs.declared.Unknown.the-variants.{None}
 use Rattle.fields.specs.declared.field.Field.{Field}
 use Rattle.fields.specs.declared.field.Field.the-variants as F
-use Rattle.visits.proofs.Bodies.{Known, refuses-as, refuses-bind, done-bind, body-opens, list-at}
+use Rattle.dosages.proofs.Bodies.{Known, refuses-as, refuses-bind, done-bind, body-opens, list-at}
 use Rattle.fields.specs.declared.field.Found.{Found as FoundAt}
 use Rattle.fields.specs.declared.field.Found.the-variants as A
 use Rattle.fields.specs.declared.field.Worded.{Worded}
 use Rattle.fields.specs.declared.field.Worded.the-variants as W
-use Rattle.visits.proofs.Rowed.{above-did, count-below, kept-refused, kept-done, visited-done, visited-refused}
-use Rattle.visits.proofs.Chunks.{timed-length}
+use Rattle.dosages.proofs.Rowed.{above-did, count-below, kept-refused, kept-done, visited-done, visited-refused}
+use Rattle.dosages.proofs.Chunks.{timed-length}
 use Rattle.document.proofs.Untables.{joined-append}
-use Rattle.visits.proofs.Listing.{Standing, there, standing-first, standing-here}
+use Rattle.dosages.proofs.Listing.{Standing, there, standing-first, standing-here}
 
 -- Fields in turn.
 module _ {A : Type 0} (p : Place) (es : List (Entry Value)) (l : Left) {o : Outcome A} where
@@ -261,6 +264,12 @@ module _ {text : List ℕ} {at : ℕ} {p : Place} {es : Elements} (stands : At t
 -- What stands below a record that is counted already.
 pub ready-more : {before : List ℕ} {u w : Used} → w ≡ more u → Ready before u → u .records < 64 → Ready before w
 ready-more {before} e r few = subst (λ (x : Used). Ready before x) (sym e) (record { size = r .size; few = omega arith })
+
+pub timed-answer : {text : List ℕ} {brace v parent : ℕ} {u w : Used} {before : List ℕ} {r : Visit} {after : List ℕ} → AnswersTimed text brace v parent w before r after
+    → w ≡ more u → Ready before u → u .records < 64 → brace ≤ length text → parent < 5
+    → VisitsNeeded (aTimed (typesUnder parent)) TimedRows text brace v w before r after × Kept 1 before w r after
+timed-answer h e ready few at row =
+    (h .reads (ready-more e ready few, at, row), h .kept (ready-more e ready few, at, row))
 
 module _ {A : Type 0} (text : List ℕ) (room : ℕ) (u : Used) (before : List ℕ) (rowsIn : RowsIn A) (o : Outcome A) (r : Visit) (after : List ℕ) (h : VisitedIn text room u before rowsIn o r after) where
   pub in-did : {v : Used} → r ≡ Done v → Did room u before (rowsIn (v .text)) o v after

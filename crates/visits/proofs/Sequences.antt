@@ -21,7 +21,8 @@ use Rattle.document.specs.Words.{row, words}
 use Rattle.document.specs.At.{At, Slot}
 use Rattle.fields.specs.Fields.{Refuses, Listing, FindsObject, ObjectAt}
 use Rattle.opening.specs.Opens.{Opens}
-use Rattle.visits.specs.Visiting.{leftOf, RowsIn, Did, VisitedIn, VisitsObjectIn, VisitsNeededIn, VisitsEachIn, DetailRows, ObjectRows, ObjectsRows, DetailAt, ObjectIn, ObjectsIn}
+use Rattle.dosages.specs.Visiting.{leftOf, RowsIn, Did, VisitedIn}
+use Rattle.visits.specs.Rows.{VisitsObjectIn, VisitsNeededIn, VisitsEachIn, DetailRows, ObjectRows, ObjectsRows, DetailAt, ObjectIn, ObjectsIn}
 use Rattle.records.specs.Records.{more}
 use Rattle.records.specs.declared.rows.Used.{Used}
 use Rattle.records.specs.declared.rows.Visit.{Visit}
@@ -29,10 +30,10 @@ use Rattle.records.specs.declared.rows.Visit.the-variants.{Done, Refused}
 use Rattle.opening.specs.declared.opened.Opened.{Opened}
 use Rattle.fields.specs.declared.field.Found.{Found as FoundAt}
 use Rattle.fields.specs.declared.field.Found.the-variants as A
-use Rattle.visits.proofs.Rowed.{above-did, count-below}
-use Rattle.visits.proofs.Bodies.{refuses-as, list-at}
-use Rattle.visits.proofs.Listing.{standing-first, standing-here, standing-over}
-use Rattle.visits.proofs.Chunks.{timed-length}
+use Rattle.dosages.proofs.Rowed.{above-did, count-below}
+use Rattle.dosages.proofs.Bodies.{refuses-as, list-at}
+use Rattle.dosages.proofs.Listing.{standing-first, standing-here, standing-over}
+use Rattle.dosages.proofs.Chunks.{timed-length}
 use Rattle.visits.proofs.Detailed.{in-did, in-refused}
 use Rattle.document.proofs.Untables.{object-append}
 

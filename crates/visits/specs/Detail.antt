@@ -4,7 +4,7 @@ use mathlib.Core.Path.{_≡_}
 use mathlib.Core.List.{List}
 use lib.ListN.{length}
 use Rattle.document.specs.Schema.{aDetail, sequencesInside}
-use Rattle.visits.specs.Visiting.{DetailAt, VisitsNeededIn}
+use Rattle.visits.specs.Rows.{DetailAt, VisitsNeededIn}
 use Rattle.visits.specs.Room.{KeptIn}
 use Rattle.records.specs.declared.rows.Used.{Used}
 use Rattle.records.specs.declared.rows.Visit.{Visit}

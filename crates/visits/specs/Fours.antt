@@ -8,7 +8,7 @@ use Rattle.document.specs.Schema.{Four}
 use Rattle.document.specs.Visit.{valuesOf, decimals}
 use Rattle.document.specs.Words.{words, rows}
 use Rattle.document.specs.At.{At}
-use Rattle.visits.specs.Visiting.{leftOf, RowsIn, VisitedIn}
+use Rattle.dosages.specs.Visiting.{leftOf, RowsIn, VisitedIn}
 use Rattle.records.specs.Records.{more}
 use Rattle.records.specs.declared.rows.Used.{Used}
 use Rattle.records.specs.declared.rows.Visit.{Visit}

@@ -8,7 +8,7 @@ use Rattle.moving.specs.Read.{decoded}
 use Rattle.document.specs.Posology.{Posology}
 use Rattle.document.specs.Table.{dateCell, lengthOf}
 use Rattle.document.specs.Valid.{detailStrings, detailRecords, strings}
-use Rattle.visits.specs.Visiting.{DetailRows}
+use Rattle.visits.specs.Rows.{DetailRows}
 use Rattle.records.specs.declared.read.Piece.{Piece}
 use Rattle.records.specs.declared.read.HeadRead.{HeadRead}
 

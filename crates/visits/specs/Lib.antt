@@ -1,5 +1,4 @@
-pub mod Visiting
-pub mod Kept
+pub mod Rows
 pub mod Room
 pub mod Fours
 pub mod Detail

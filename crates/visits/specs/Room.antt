@@ -2,7 +2,7 @@
 use Prim.Native.Nat.{ℕ, _≤_}
 use mathlib.Core.Path.{_≡_}
 use mathlib.Core.List.{List}
-use Rattle.visits.specs.Kept.{Kept}
+use Rattle.dosages.specs.Kept.{Kept}
 use Rattle.records.specs.declared.rows.Used.{Used}
 use Rattle.records.specs.declared.rows.Visit.{Visit}
 use Rattle.records.specs.declared.rows.Visit.the-variants.{Done}

@@ -1,7 +1,7 @@
 // Details and sequences (document 01, "Objects": Daily to Sequence, PosologySequence, Pause).
 // Reading a detail calls reading a sequence and back; the sequences still allowed are the number that falls.
-use crate::timed;
 use document::table::WORDS;
+use dosages::timed;
 use fields::field;
 use fields::field::Field;
 use fields::field::Found;
@@ -30,7 +30,8 @@ use records::rows::up_worded;
 ghost use Prim.Native.Nat.{ℕ, suc, _≤_, _<_};
 ghost use lib.ListN.{length};
 ghost use Rattle.document.specs.Schema.{aDetail, aSequenceObject};
-ghost use Rattle.visits.specs.Visiting.{Ready, DetailAt, ObjectIn, ObjectsIn, VisitsBodyIn, VisitsObjectIn, VisitsEachIn, VisitsNeededIn};
+ghost use Rattle.dosages.specs.Visiting.{Ready};
+ghost use Rattle.visits.specs.Rows.{DetailAt, ObjectIn, ObjectsIn, VisitsBodyIn, VisitsObjectIn, VisitsEachIn, VisitsNeededIn};
 ghost use Rattle.visits.specs.Room.{KeptIn};
 ghost use Rattle.visits.specs.Fours.{ReadsFour};
 ghost use Rattle.visits.specs.Detail.{AnswersDetail};

@@ -1,5 +1,2 @@
 // The objects of a posology's detail visited in document 01's order, each into its record of six words.
-mod application;
 pub mod detail;
-mod dosage;
-mod timed;

@@ -14,12 +14,13 @@ use Rattle.document.specs.Schema.{need, gives, aDuration, aTimeUnit, anObject, 
 use Rattle.document.specs.Visit.{entriesOf, valuesOf, body}
 use Rattle.document.specs.At.{At}
 use Rattle.names.specs.Names.{nameAt, names}
-use Rattle.visits.specs.Visiting.{leftOf, DetailAt, ObjectIn, ObjectsIn}
+use Rattle.dosages.specs.Visiting.{leftOf}
+use Rattle.visits.specs.Rows.{DetailAt, ObjectIn, ObjectsIn}
 use Rattle.records.specs.Records.{more}
-use Rattle.visits.proofs.Bodies.{refuses-as, object-at, body-unknown, body-full}
+use Rattle.dosages.proofs.Bodies.{refuses-as, object-at, body-unknown, body-full}
 use Rattle.visits.proofs.Detailed as D
 use Rattle.visits.proofs.Detailed.{begins, took, stopped, number-is, number-refused, refused-in, did-in, refused-kept, done-kept}
-use Rattle.visits.proofs.Listing as L
+use Rattle.dosages.proofs.Listing as L
 use Rattle.visits.proofs.Sequences as S
 use Prim.Native.Nat.{ℕ, _<_}
 use borrow.Fn.Kinds.{In}

@@ -6,9 +6,10 @@ use Rattle.document.specs.Posology as P
 use Rattle.document.specs.Schema.{need, may, gives, aDuration, aTimeUnit, anObject, aTimed, underCyclic, rowsOf, cyclicRows}
 use Rattle.document.specs.Visit.{entriesOf, done}
 use Rattle.names.specs.Names.{nameAt, names}
-use Rattle.visits.specs.Visiting.{leftOf, DetailAt}
+use Rattle.dosages.specs.Visiting.{leftOf}
+use Rattle.visits.specs.Rows.{DetailAt}
 use Rattle.records.specs.Records.{more}
-use Rattle.visits.proofs.Bodies.{object-at, body-unknown}
+use Rattle.dosages.proofs.Bodies.{object-at, body-unknown}
 use Rattle.visits.proofs.Detailed as D
 use Rattle.visits.proofs.Detailed.{begins, took, stopped, took-given, stopped-given, number-is, number-refused, refused-in, did-in, refused-kept, done-kept}
 use mathlib.Core.Option.{Option·getD}
@@ -110,9 +111,7 @@ one-more-requires : tie.Need-one-more-requires
 one-more-requires c κs = search needs
 
 read-timed-requires : tie.Need-read-timed-requires
-read-timed-requires c κs =
-    let s = c .before .before .before .before .before .before .before .before .before .before .before .before .before .before .before .before .before .before .before in
-    (D.ready-more (one-more (s .pre .1) (c .before .one-more .ensures)) (s .pre .0) (s .pre .1), s .pre .2, c .before .before .under-cyclic .ensures .1)
+read-timed-requires c κs = search needs
 
 enum-known-r : tie.Need-enum-known-r
 enum-known-r c = search needs
@@ -127,7 +126,8 @@ returns-4 : tie.Need-returns-4
 unfolding rowsOf cyclicRows nameAt names
 returns-4 c =
     let s = c .before .before .before .before .before .before .before .before .before .before .before .before .before .before .before .before .before .before .before .before .before .before .before .before in
-    let a = s .args in (
+    let a = s .args in
+    let answer = D.timed-answer (c .before .before .before .before .read-timed .ensures) (one-more (s .pre .1) (c .before .before .before .before .before .before .one-more .ensures)) (s .pre .0) (s .pre .1) (s .pre .2) (c .before .before .before .before .before .before .before .under-cyclic .ensures .1) in (
       λ n room fits p ms stands once.
           let l = leftOf room (more (a .used)) in
           let begun = begins (D.cyclic-known n) p (entriesOf ms) room (a .used) (s .pre .1) (a .text .now) (c .before .before .before .before .before .before .before .before .before .before .before .before .before .before .before .before .before .before .unknown-name .ensures refl p ms stands once) (c .before .before .before .before .before .before .before .before .before .before .before .before .before .before .before .before .enum-told .given .1) (object-at stands) in
@@ -135,10 +135,10 @@ returns-4 c =
           let one = took (drop (a .at) (a .text .now)) (entriesOf ms) l "cyDuU" aTimeUnit (λ unit. need "cyDu" aDuration λ du. need "tdo" (anObject (aTimed (underCyclic unit))) λ td. may "tdpc" aDuration λ per. gives (P.cyclic unit du td (Option·getD per 1))) begun (number-is (a .text .now) (a .at) _ _ _ (c .before .before .before .before .before .before .before .before .before .before .before .before .before .before .before .integer-field .ensures (s .pre .2)) _ (once .slot 4 (omega arith)) l (c .before .before .before .before .before .before .before .before .before .before .before .before .before .f .given .1)) in
           let du = c .before .before .before .before .before .before .before .before .before .f2 .given .0 .0 in
           let two = took (drop (a .at) (a .text .now)) (entriesOf ms) l "cyDu" aDuration (λ du. need "tdo" (anObject (aTimed (underCyclic unit))) λ td. may "tdpc" aDuration λ per. gives (P.cyclic unit du td (Option·getD per 1))) one (number-is (a .text .now) (a .at) _ _ _ (c .before .before .before .before .before .before .before .before .before .before .before .integer-field2 .ensures (s .pre .2)) _ (once .slot 5 (omega arith)) l (c .before .before .before .before .before .before .before .before .before .f2 .given .1)) in
-          let timed = D.timed-refused (underCyclic unit) (a .text .now) (a .at) _ (a .used) (a .words .now) (c .before .before .before .before .read-timed .result) (c .before .before .before .before .read-timed .last .1 .1 .1 .1 .1 .0) (one-more (s .pre .1) (c .before .before .before .before .before .before .one-more .ensures)) (D.timed-under (a .text .now) (a .at) _ (c .before .before .before .before .before .before .one-more .result) (a .words .now) (c .before .before .before .before .read-timed .result) (c .before .before .before .before .read-timed .last .1 .1 .1 .1 .1 .0) (c .before .before .before .before .before .before .before .under-cyclic .ensures .0) (c .before .before .before .before .read-timed .ensures .0)) (once .slot 3 (omega arith)) room fits (c .enum-told4 .given .1) in
+          let timed = D.timed-refused (underCyclic unit) (a .text .now) (a .at) _ (a .used) (a .words .now) (c .before .before .before .before .read-timed .result) (c .before .before .before .before .read-timed .last .1 .1 .1 .1 .1 .0) (one-more (s .pre .1) (c .before .before .before .before .before .before .one-more .ensures)) (D.timed-under (a .text .now) (a .at) _ (c .before .before .before .before .before .before .one-more .result) (a .words .now) (c .before .before .before .before .read-timed .result) (c .before .before .before .before .read-timed .last .1 .1 .1 .1 .1 .0) (c .before .before .before .before .before .before .before .under-cyclic .ensures .0) (answer .0)) (once .slot 3 (omega arith)) room fits (c .enum-told4 .given .1) in
           refused-in (a .text .now) room (a .used) (a .words .now) (DetailAt (a .text .now)) _ _ _ (c .enum-told4 .given .1)
           (stopped (drop (a .at) (a .text .now)) (entriesOf ms) l "tdo" (anObject (aTimed (underCyclic unit))) (λ td. may "tdpc" aDuration λ per. gives (P.cyclic unit du td (Option·getD per 1))) two (timed .0)) (timed .1),
-      λ room fits. refused-kept (c .enum-told4 .given .1) (c .before .before .before .before .read-timed .ensures .1 .size),
+      λ room fits. refused-kept (c .enum-told4 .given .1) (answer .1 .size),
     )
 
 array-read-optional-integer : tie.Need-array-read-optional-integer
@@ -164,6 +164,7 @@ unfolding rowsOf cyclicRows nameAt names
 returns-5 c =
     let s = c .before .before .before .before .before .before .before .before .before .before .before .before .before .before .before .before .before .before .before .before .before .before .before .before .before .before .before .before .before in
     let a = s .args in
+    let answer = D.timed-answer (c .before .before .before .before .before .before .before .before .before .read-timed .ensures) (one-more (s .pre .1) (c .before .before .before .before .before .before .before .before .before .before .before .one-more .ensures)) (s .pre .0) (s .pre .1) (s .pre .2) (c .before .before .before .before .before .before .before .before .before .before .before .before .under-cyclic .ensures .1) in
     let up = c .up3 .ensures _ _ (c .before .enum-told5 .given .1) in (
       λ n room fits p ms stands once.
           let l = leftOf room (more (a .used)) in
@@ -172,12 +173,12 @@ returns-5 c =
           let one = took (drop (a .at) (a .text .now)) (entriesOf ms) l "cyDuU" aTimeUnit (λ unit. need "cyDu" aDuration λ du. need "tdo" (anObject (aTimed (underCyclic unit))) λ td. may "tdpc" aDuration λ per. gives (P.cyclic unit du td (Option·getD per 1))) begun (number-is (a .text .now) (a .at) _ _ _ (c .before .before .before .before .before .before .before .before .before .before .before .before .before .before .before .before .before .before .before .before .integer-field .ensures (s .pre .2)) _ (once .slot 4 (omega arith)) l (c .before .before .before .before .before .before .before .before .before .before .before .before .before .before .before .before .before .before .f .given .1)) in
           let du = c .before .before .before .before .before .before .before .before .before .before .before .before .before .before .f2 .given .0 .0 in
           let two = took (drop (a .at) (a .text .now)) (entriesOf ms) l "cyDu" aDuration (λ du. need "tdo" (anObject (aTimed (underCyclic unit))) λ td. may "tdpc" aDuration λ per. gives (P.cyclic unit du td (Option·getD per 1))) one (number-is (a .text .now) (a .at) _ _ _ (c .before .before .before .before .before .before .before .before .before .before .before .before .before .before .before .before .integer-field2 .ensures (s .pre .2)) _ (once .slot 5 (omega arith)) l (c .before .before .before .before .before .before .before .before .before .before .before .before .before .before .f2 .given .1)) in
-          let timed = D.timed-did (underCyclic unit) (a .text .now) (a .at) _ (a .used) (a .words .now) (c .before .before .before .before .before .before .before .before .before .read-timed .result) (c .before .before .before .before .before .before .before .before .before .read-timed .last .1 .1 .1 .1 .1 .0) (one-more (s .pre .1) (c .before .before .before .before .before .before .before .before .before .before .before .one-more .ensures)) (D.timed-under (a .text .now) (a .at) _ (c .before .before .before .before .before .before .before .before .before .before .before .one-more .result) (a .words .now) (c .before .before .before .before .before .before .before .before .before .read-timed .result) (c .before .before .before .before .before .before .before .before .before .read-timed .last .1 .1 .1 .1 .1 .0) (c .before .before .before .before .before .before .before .before .before .before .before .before .under-cyclic .ensures .0) (c .before .before .before .before .before .before .before .before .before .read-timed .ensures .0)) (once .slot 3 (omega arith)) room fits (c .before .before .before .before .before .r .given .1) in
+          let timed = D.timed-did (underCyclic unit) (a .text .now) (a .at) _ (a .used) (a .words .now) (c .before .before .before .before .before .before .before .before .before .read-timed .result) (c .before .before .before .before .before .before .before .before .before .read-timed .last .1 .1 .1 .1 .1 .0) (one-more (s .pre .1) (c .before .before .before .before .before .before .before .before .before .before .before .one-more .ensures)) (D.timed-under (a .text .now) (a .at) _ (c .before .before .before .before .before .before .before .before .before .before .before .one-more .result) (a .words .now) (c .before .before .before .before .before .before .before .before .before .read-timed .result) (c .before .before .before .before .before .before .before .before .before .read-timed .last .1 .1 .1 .1 .1 .0) (c .before .before .before .before .before .before .before .before .before .before .before .before .under-cyclic .ensures .0) (answer .0)) (once .slot 3 (omega arith)) room fits (c .before .before .before .before .before .r .given .1) in
           let three = took (drop (a .at) (a .text .now)) (entriesOf ms) l "tdo" (anObject (aTimed (underCyclic unit))) (λ td. may "tdpc" aDuration λ per. gives (P.cyclic unit du td (Option·getD per 1))) two (timed .outcome) in
           let m = leftOf room (record { records = c .before .before .before .before .before .r .given .0 .0 .records; text = a .used .text }) in
           refused-in (a .text .now) room (a .used) (a .words .now) (DetailAt (a .text .now)) _ _ _ up
-          (stopped-given (drop (a .at) (a .text .now)) (entriesOf ms) m "tdpc" aDuration (λ per. gives (P.cyclic unit du (timed .value) (Option·getD per 1))) three (D.given-refused (a .text .now) _ _ _ _ (c .before .before .before .optional-integer .ensures) (once .slot 6 (omega arith)) (drop (a .at) (a .text .now)) m (c .before .enum-told5 .given .1))) (c .before .before .before .before .before .before .before .before .before .read-timed .ensures .1 .size),
-      λ room fits. refused-kept up (c .before .before .before .before .before .before .before .before .before .read-timed .ensures .1 .size),
+          (stopped-given (drop (a .at) (a .text .now)) (entriesOf ms) m "tdpc" aDuration (λ per. gives (P.cyclic unit du (timed .value) (Option·getD per 1))) three (D.given-refused (a .text .now) _ _ _ _ (c .before .before .before .optional-integer .ensures) (once .slot 6 (omega arith)) (drop (a .at) (a .text .now)) m (c .before .enum-told5 .given .1))) (answer .1 .size),
+      λ room fits. refused-kept up (answer .1 .size),
     )
 
 above-requires : tie.Need-above-requires
@@ -191,7 +192,8 @@ unfolding rowsOf cyclicRows nameAt names
 returns-6 c =
     let s = c .before .before .before .before .before .before .before .before .before .before .before .before .before .before .before .before .before .before .before .before .before .before .before .before .before .before .before .before .before .before .before .before .before in
     let a = s .args in
-    let above = above-stores _ _ _ (c .before .before .before .before .before .before .before .before .before .before .before .before .before .read-timed .ensures .1 .size ∙ s .pre .0 .size) (s .pre .1) (c .before .before .above .ensures) in (
+    let answer = D.timed-answer (c .before .before .before .before .before .before .before .before .before .before .before .before .before .read-timed .ensures) (one-more (s .pre .1) (c .before .before .before .before .before .before .before .before .before .before .before .before .before .before .before .one-more .ensures)) (s .pre .0) (s .pre .1) (s .pre .2) (c .before .before .before .before .before .before .before .before .before .before .before .before .before .before .before .before .under-cyclic .ensures .1) in
+    let above = above-stores _ _ _ (answer .1 .size ∙ s .pre .0 .size) (s .pre .1) (c .before .before .above .ensures) in (
       λ n room fits p ms stands once.
           let l = leftOf room (more (a .used)) in
           let begun = begins (D.cyclic-known n) p (entriesOf ms) room (a .used) (s .pre .1) (a .text .now) (c .before .before .before .before .before .before .before .before .before .before .before .before .before .before .before .before .before .before .before .before .before .before .before .before .before .before .before .unknown-name .ensures refl p ms stands once) (c .before .before .before .before .before .before .before .before .before .before .before .before .before .before .before .before .before .before .before .before .before .before .before .before .before .enum-told .given .1) (object-at stands) in
@@ -199,7 +201,7 @@ returns-6 c =
           let one = took (drop (a .at) (a .text .now)) (entriesOf ms) l "cyDuU" aTimeUnit (λ unit. need "cyDu" aDuration λ du. need "tdo" (anObject (aTimed (underCyclic unit))) λ td. may "tdpc" aDuration λ per. gives (P.cyclic unit du td (Option·getD per 1))) begun (number-is (a .text .now) (a .at) _ _ _ (c .before .before .before .before .before .before .before .before .before .before .before .before .before .before .before .before .before .before .before .before .before .before .before .before .integer-field .ensures (s .pre .2)) _ (once .slot 4 (omega arith)) l (c .before .before .before .before .before .before .before .before .before .before .before .before .before .before .before .before .before .before .before .before .before .before .f .given .1)) in
           let du = c .before .before .before .before .before .before .before .before .before .before .before .before .before .before .before .before .before .before .f2 .given .0 .0 in
           let two = took (drop (a .at) (a .text .now)) (entriesOf ms) l "cyDu" aDuration (λ du. need "tdo" (anObject (aTimed (underCyclic unit))) λ td. may "tdpc" aDuration λ per. gives (P.cyclic unit du td (Option·getD per 1))) one (number-is (a .text .now) (a .at) _ _ _ (c .before .before .before .before .before .before .before .before .before .before .before .before .before .before .before .before .before .before .before .before .integer-field2 .ensures (s .pre .2)) _ (once .slot 5 (omega arith)) l (c .before .before .before .before .before .before .before .before .before .before .before .before .before .before .before .before .before .before .f2 .given .1)) in
-          let timed = D.timed-did (underCyclic unit) (a .text .now) (a .at) _ (a .used) (a .words .now) (c .before .before .before .before .before .before .before .before .before .before .before .before .before .read-timed .result) (c .before .before .before .before .before .before .before .before .before .before .before .before .before .read-timed .last .1 .1 .1 .1 .1 .0) (one-more (s .pre .1) (c .before .before .before .before .before .before .before .before .before .before .before .before .before .before .before .one-more .ensures)) (D.timed-under (a .text .now) (a .at) _ (c .before .before .before .before .before .before .before .before .before .before .before .before .before .before .before .one-more .result) (a .words .now) (c .before .before .before .before .before .before .before .before .before .before .before .before .before .read-timed .result) (c .before .before .before .before .before .before .before .before .before .before .before .before .before .read-timed .last .1 .1 .1 .1 .1 .0) (c .before .before .before .before .before .before .before .before .before .before .before .before .before .before .before .before .under-cyclic .ensures .0) (c .before .before .before .before .before .before .before .before .before .before .before .before .before .read-timed .ensures .0)) (once .slot 3 (omega arith)) room fits (c .before .before .before .before .before .before .before .before .before .r .given .1) in
+          let timed = D.timed-did (underCyclic unit) (a .text .now) (a .at) _ (a .used) (a .words .now) (c .before .before .before .before .before .before .before .before .before .before .before .before .before .read-timed .result) (c .before .before .before .before .before .before .before .before .before .before .before .before .before .read-timed .last .1 .1 .1 .1 .1 .0) (one-more (s .pre .1) (c .before .before .before .before .before .before .before .before .before .before .before .before .before .before .before .one-more .ensures)) (D.timed-under (a .text .now) (a .at) _ (c .before .before .before .before .before .before .before .before .before .before .before .before .before .before .before .one-more .result) (a .words .now) (c .before .before .before .before .before .before .before .before .before .before .before .before .before .read-timed .result) (c .before .before .before .before .before .before .before .before .before .before .before .before .before .read-timed .last .1 .1 .1 .1 .1 .0) (c .before .before .before .before .before .before .before .before .before .before .before .before .before .before .before .before .under-cyclic .ensures .0) (answer .0)) (once .slot 3 (omega arith)) room fits (c .before .before .before .before .before .before .before .before .before .r .given .1) in
           let three = took (drop (a .at) (a .text .now)) (entriesOf ms) l "tdo" (anObject (aTimed (underCyclic unit))) (λ td. may "tdpc" aDuration λ per. gives (P.cyclic unit du td (Option·getD per 1))) two (timed .outcome) in
           let m = leftOf room (record { records = c .before .before .before .before .before .before .before .before .before .r .given .0 .0 .records; text = a .used .text }) in
           let per = D.given-is (a .text .now) _ _ _ _ (c .before .before .before .before .before .before .before .optional-integer .ensures) (once .slot 6 (omega arith)) (drop (a .at) (a .text .now)) m (c .before .before .before .before .before .f3 .given .1) in
@@ -207,8 +209,8 @@ returns-6 c =
           (D.cyclic-did (a .text .now) timed refl unit du (c .before .before .before .before .before .f3 .given .0 .0)
           (took-given (drop (a .at) (a .text .now)) (entriesOf ms) m "tdpc" aDuration (λ per. gives (P.cyclic unit du (timed .value) (Option·getD per 1))) three (per .outcome) ∙ ap (λ (k : ℕ). done (P.cyclic unit du (timed .value) k) m) (per .counts)) (above .1)),
       λ room fits.
-          let grown = c .before .before .before .before .before .before .before .before .before .before .before .before .before .read-timed .ensures .1 .grown _ (c .before .before .before .before .before .before .before .before .before .r .given .1) in
-          done-kept (above .0) (c .before .before .above .kept .0 ∙ c .before .before .before .before .before .before .before .before .before .before .before .before .before .read-timed .ensures .1 .size) (D.grown-as refl (D.grown-more (one-more (s .pre .1) (c .before .before .before .before .before .before .before .before .before .before .before .before .before .before .before .one-more .ensures)) grown)) fits,
+          let grown = answer .1 .grown _ (c .before .before .before .before .before .before .before .before .before .r .given .1) in
+          done-kept (above .0) (c .before .before .above .kept .0 ∙ answer .1 .size) (D.grown-as refl (D.grown-more (one-more (s .pre .1) (c .before .before .before .before .before .before .before .before .before .before .before .before .before .before .before .one-more .ensures)) grown)) fits,
     )
 
 pub cyclic-spec : {M : Type 1} → statement M

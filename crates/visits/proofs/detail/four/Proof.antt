@@ -1,9 +1,9 @@
 -- The four decimals of a Daily, in one record.
 use mathlib.Core.Path.{refl}
-use Rattle.visits.specs.Visiting.{leftOf}
+use Rattle.dosages.specs.Visiting.{leftOf}
 use Rattle.records.specs.Records.{more}
 use Rattle.visits.specs.Fours.{FourIn}
-use Rattle.visits.proofs.Rowed.{leaf-did}
+use Rattle.dosages.proofs.Rowed.{leaf-did}
 use Rattle.visits.proofs.Detailed as D
 use Rattle.visits.proofs.Detailed.{refused-in, did-in, refused-kept, done-kept}
 use Rattle.records.proofs.Records.{leaf-stores}

@@ -6,9 +6,10 @@ use Rattle.document.specs.Posology as P
 use Rattle.document.specs.Schema.{gives, aText, rowsOf, freeTextRows}
 use Rattle.document.specs.Visit.{entriesOf}
 use Rattle.names.specs.Names.{nameAt, names}
-use Rattle.visits.specs.Visiting.{leftOf, DetailAt}
+use Rattle.dosages.specs.Visiting.{leftOf}
+use Rattle.visits.specs.Rows.{DetailAt}
 use Rattle.records.specs.Records.{more}
-use Rattle.visits.proofs.Bodies.{object-at, body-unknown}
+use Rattle.dosages.proofs.Bodies.{object-at, body-unknown}
 use Rattle.visits.proofs.Detailed as D
 use Rattle.visits.proofs.Detailed.{begins, took, stopped, refused-in, refused-kept, done-kept}
 use Rattle.records.proofs.Records.{stored}

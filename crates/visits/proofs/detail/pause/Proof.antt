@@ -6,11 +6,12 @@ use Rattle.document.specs.Posology as P
 use Rattle.document.specs.Schema.{need, gives, aDuration, aTimeUnit, rowsOf, pauseRows}
 use Rattle.document.specs.Visit.{entriesOf}
 use Rattle.names.specs.Names.{nameAt, names}
-use Rattle.visits.specs.Visiting.{leftOf, ObjectIn, ObjectRows}
+use Rattle.dosages.specs.Visiting.{leftOf}
+use Rattle.visits.specs.Rows.{ObjectIn, ObjectRows}
 use Rattle.document.specs.Valid.{objectStrings}
 use Rattle.records.specs.Records.{more}
-use Rattle.visits.proofs.Bodies.{object-at, body-unknown}
-use Rattle.visits.proofs.Rowed.{leaf-did}
+use Rattle.dosages.proofs.Bodies.{object-at, body-unknown}
+use Rattle.dosages.proofs.Rowed.{leaf-did}
 use Rattle.visits.proofs.Detailed as D
 use Rattle.visits.proofs.Detailed.{begins, took, stopped, number-is, number-refused, refused-in, did-in, refused-kept, done-kept}
 use Rattle.records.proofs.Records.{leaf-stores}

@@ -6,9 +6,10 @@ use Rattle.document.specs.Posology as P
 use Rattle.document.specs.Schema.{gives, anObject, aTimed, underSingle, rowsOf, singleRows}
 use Rattle.document.specs.Visit.{entriesOf}
 use Rattle.names.specs.Names.{nameAt, names}
-use Rattle.visits.specs.Visiting.{leftOf, DetailAt}
+use Rattle.dosages.specs.Visiting.{leftOf}
+use Rattle.visits.specs.Rows.{DetailAt}
 use Rattle.records.specs.Records.{more}
-use Rattle.visits.proofs.Bodies.{object-at, body-unknown}
+use Rattle.dosages.proofs.Bodies.{object-at, body-unknown}
 use Rattle.visits.proofs.Detailed as D
 use Rattle.visits.proofs.Detailed.{begins, took, stopped, refused-in, did-in, refused-kept, done-kept}
 use Rattle.records.proofs.Records.{above-stores, one-more}
@@ -45,9 +46,7 @@ one-more-requires : tie.Need-one-more-requires
 one-more-requires c κs = search needs
 
 read-timed-requires : tie.Need-read-timed-requires
-read-timed-requires c κs =
-    let s = c .before .before .before .before .before .before .before .before .before .before in
-    (D.ready-more (one-more (s .pre .1) (c .before .one-more .ensures)) (s .pre .0) (s .pre .1), s .pre .2, omega arith)
+read-timed-requires c κs = search needs
 
 enum-known-r : tie.Need-enum-known-r
 enum-known-r c = search needs
@@ -62,14 +61,15 @@ returns-2 : tie.Need-returns-2
 unfolding rowsOf singleRows nameAt names
 returns-2 c =
     let s = c .before .before .before .before .before .before .before .before .before .before .before .before .before .before .before in
-    let a = s .args in (
+    let a = s .args in
+    let answer = D.timed-answer (c .before .before .before .before .read-timed .ensures) (one-more (s .pre .1) (c .before .before .before .before .before .before .one-more .ensures)) (s .pre .0) (s .pre .1) (s .pre .2) (omega arith) in (
       λ n room fits p ms stands once.
           let l = leftOf room (more (a .used)) in
           let begun = begins (D.single-known n) p (entriesOf ms) room (a .used) (s .pre .1) (a .text .now) (c .before .before .before .before .before .before .before .before .before .unknown-name .ensures refl p ms stands once) (c .before .before .before .before .before .before .before .enum-told .given .1) (object-at stands) in
-          let timed = D.timed-refused underSingle (a .text .now) (a .at) _ (a .used) (a .words .now) (c .before .before .before .before .read-timed .result) (c .before .before .before .before .read-timed .last .1 .1 .1 .1 .1 .0) (one-more (s .pre .1) (c .before .before .before .before .before .before .one-more .ensures)) (c .before .before .before .before .read-timed .ensures .0) (once .slot 3 (omega arith)) room fits (c .enum-told2 .given .1) in
+          let timed = D.timed-refused underSingle (a .text .now) (a .at) _ (a .used) (a .words .now) (c .before .before .before .before .read-timed .result) (c .before .before .before .before .read-timed .last .1 .1 .1 .1 .1 .0) (one-more (s .pre .1) (c .before .before .before .before .before .before .one-more .ensures)) (answer .0) (once .slot 3 (omega arith)) room fits (c .enum-told2 .given .1) in
           refused-in (a .text .now) room (a .used) (a .words .now) (DetailAt (a .text .now)) _ _ _ (c .enum-told2 .given .1)
           (stopped (drop (a .at) (a .text .now)) (entriesOf ms) l "tdo" (anObject (aTimed underSingle)) (λ td. gives (P.single td)) begun (timed .0)) (timed .1),
-      λ room fits. refused-kept (c .enum-told2 .given .1) (c .before .before .before .before .read-timed .ensures .1 .size),
+      λ room fits. refused-kept (c .enum-told2 .given .1) (answer .1 .size),
     )
 
 above-requires : tie.Need-above-requires
@@ -83,16 +83,17 @@ unfolding rowsOf singleRows nameAt names
 returns-3 c =
     let s = c .before .before .before .before .before .before .before .before .before .before .before .before .before .before .before .before .before .before .before .before in
     let a = s .args in
-    let above = above-stores _ _ _ (c .before .before .before .before .before .before .before .before .before .read-timed .ensures .1 .size ∙ s .pre .0 .size) (s .pre .1) (c .before .before .above .ensures) in (
+    let answer = D.timed-answer (c .before .before .before .before .before .before .before .before .before .read-timed .ensures) (one-more (s .pre .1) (c .before .before .before .before .before .before .before .before .before .before .before .one-more .ensures)) (s .pre .0) (s .pre .1) (s .pre .2) (omega arith) in
+    let above = above-stores _ _ _ (answer .1 .size ∙ s .pre .0 .size) (s .pre .1) (c .before .before .above .ensures) in (
       λ n room fits p ms stands once.
           let l = leftOf room (more (a .used)) in
           let begun = begins (D.single-known n) p (entriesOf ms) room (a .used) (s .pre .1) (a .text .now) (c .before .before .before .before .before .before .before .before .before .before .before .before .before .before .unknown-name .ensures refl p ms stands once) (c .before .before .before .before .before .before .before .before .before .before .before .before .enum-told .given .1) (object-at stands) in
-          let timed = D.timed-did underSingle (a .text .now) (a .at) _ (a .used) (a .words .now) (c .before .before .before .before .before .before .before .before .before .read-timed .result) (c .before .before .before .before .before .before .before .before .before .read-timed .last .1 .1 .1 .1 .1 .0) (one-more (s .pre .1) (c .before .before .before .before .before .before .before .before .before .before .before .one-more .ensures)) (c .before .before .before .before .before .before .before .before .before .read-timed .ensures .0) (once .slot 3 (omega arith)) room fits (c .before .before .before .before .before .r .given .1) in
+          let timed = D.timed-did underSingle (a .text .now) (a .at) _ (a .used) (a .words .now) (c .before .before .before .before .before .before .before .before .before .read-timed .result) (c .before .before .before .before .before .before .before .before .before .read-timed .last .1 .1 .1 .1 .1 .0) (one-more (s .pre .1) (c .before .before .before .before .before .before .before .before .before .before .before .one-more .ensures)) (answer .0) (once .slot 3 (omega arith)) room fits (c .before .before .before .before .before .r .given .1) in
           did-in (a .text .now) room (a .used) (a .words .now) (DetailAt (a .text .now)) _ _ _ (above .0)
           (D.single-did (a .text .now) timed refl (took (drop (a .at) (a .text .now)) (entriesOf ms) l "tdo" (anObject (aTimed underSingle)) (λ td. gives (P.single td)) begun (timed .outcome)) (above .1)),
       λ room fits.
-          let grown = c .before .before .before .before .before .before .before .before .before .read-timed .ensures .1 .grown _ (c .before .before .before .before .before .r .given .1) in
-          done-kept (above .0) (c .before .before .above .kept .0 ∙ c .before .before .before .before .before .before .before .before .before .read-timed .ensures .1 .size) (D.grown-as refl (D.grown-more (one-more (s .pre .1) (c .before .before .before .before .before .before .before .before .before .before .before .one-more .ensures)) grown)) fits,
+          let grown = answer .1 .grown _ (c .before .before .before .before .before .r .given .1) in
+          done-kept (above .0) (c .before .before .above .kept .0 ∙ answer .1 .size) (D.grown-as refl (D.grown-more (one-more (s .pre .1) (c .before .before .before .before .before .before .before .before .before .before .before .one-more .ensures)) grown)) fits,
     )
 
 pub single-spec : {M : Type 1} → statement M
