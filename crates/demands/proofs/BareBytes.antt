@@ -3,19 +3,15 @@ use Prim.Native.Nat.{ℕ}
 use mathlib.Core.Path.{_≡_, refl, sym, ap, _∙_}
 use mathlib.Core.List.{List, [], _∷_}
 use mathlib.Core.Bool.{Bool, true, false, not, _&&_, false≢true}
-use native.Mathlib.Omega.{arith}
 use lib.Dec.{eqb}
 use Rattle.json.specs.Rows.{choose}
 use Rattle.json.specs.Byte.{isBlank, isNumeric}
 use Rattle.json.specs.Grammar.{Blanks, here, blank}
-use Rattle.json.proofs.Truth.{and-right, and-left}
+use Rattle.json.proofs.Truth.{and-right, and-left, never}
 use Rattle.moving.specs.Moving.{firstByte}
 use Rattle.spelling.proofs.Bytes.{blank-not-numeric}
 use Rattle.document.proofs.Numerals.{Ends}
 use Rattle.demands.specs.Blanks.{bare, bareQuoted, bareEscaped, inWord, mayPart, wholeAfter, wholeQuoted}
-
-never : {A : Type 0} → _≡_ {A = ℕ} 0 1 → A
-never e = absurd (omega arith)
 
 -- One step of each, by whether the byte is a blank, a quote, a backslash.
 abbrev pub bareStep : Bool → Bool → ℕ → List ℕ → List ℕ

@@ -8,7 +8,8 @@ use Rattle.document.specs.Table.{emptyTable}
 use Rattle.document.specs.Answer.{Reads, ReadsNext, read, readNext}
 use Rattle.document.specs.Write.{Writes, write}
 use Rattle.document.proofs.Numbered.{reading-one, next-reading-one, writing-one}
-use Rattle.demands.proofs.Leaves.{refusal, next-refusal, next-blank, blank-length, write-refusal}
+use Rattle.demands.proofs.Leaves.{refusal, next-refusal, next-blank, write-refusal}
+use Rattle.demands.proofs.RefusalCases.{blank-by}
 use Rattle.document.specs.declared.table.Table.{Table}
 use Rattle.document.specs.declared.table.Reading.{Reading}
 use Rattle.document.specs.declared.table.Answer.the-variants as A
@@ -44,7 +45,7 @@ pub blank-leaves-all : {purpose n : ℕ} {run before after : List ℕ} {r : Next
     → (n ≡ length run) × (r .table ≡ emptyTable) × (after ≡ before)
 blank-leaves-all {purpose} {run = run} {before = before} a e =
     let b = next-blank (readNext purpose (roomOf (length before)) run) (a .answer) (a .table) (a .left) e in
-    (blank-length purpose (roomOf (length before)) run (b .0), b .1, b .2)
+    (blank-by purpose (roomOf (length before)) run (b .0) .2, b .1, b .2)
 
 pub refused-write-leaves-all : {purpose n place : ℕ} {t : Table} {text before after : List ℕ} {r : Writing} → Writes purpose t text before r after → r ≡ Refused n place
     → after ≡ before

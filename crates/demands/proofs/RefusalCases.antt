@@ -8,6 +8,7 @@ use native.Mathlib.Omega.{arith}
 use lib.Dec.{leb, ltb}
 use lib.ListN.{length}
 use borrow.Author.Tests.{leb-true, leb-false, ltb-true, ltb-false}
+use Rattle.json.proofs.Truth.{never}
 use Rattle.json.specs.Rows.{choose}
 use Rattle.json.specs.Byte.{blanked}
 use Rattle.json.specs.Tree.{Place, placeIn}
@@ -21,9 +22,6 @@ use Rattle.document.specs.Valid.{isUse}
 use Rattle.document.specs.Answer.{textAtMost, Read, taken, refused, visited, readWalked, afterWalk, read, blankTo, refusedAt, upTo, nextWalked, nextBegun, readNext}
 use Rattle.demands.specs.Refusals.{Met}
 use Rattle.demands.proofs.VisitNumbers.{visit-refuses}
-
-never : {A : Type 0} → _≡_ {A = ℕ} 0 1 → A
-never e = absurd (omega arith)
 
 -- A text.
 pub data Refusal (purpose : ℕ) (text : List ℕ) (n place : ℕ) : Type 0 where

@@ -3,7 +3,6 @@ use Prim.Native.Nat.{ℕ}
 use mathlib.Core.Path.{_≡_, refl, sym, ap, subst, _∙_}
 use mathlib.Core.List.{List, [], _∷_, _++_}
 use mathlib.Core.Bool.{Bool, true, false, false≢true}
-use native.Mathlib.Omega.{arith}
 use lib.Dec.{eqb}
 use Rattle.json.specs.Byte.{isBlank, isNumeric}
 use Rattle.json.specs.Number.{mayEnd}
@@ -12,7 +11,7 @@ use Rattle.json.specs.declared.number.InNumber.{InNumber}
 use Rattle.json.specs.declared.number.InNumber.the-variants.{Start}
 use Rattle.json.specs.Grammar as G
 use Rattle.json.specs.Grammar.{Blanks, Chars, Digits, Value, Listed, Behind, Named, Follows, Text}
-use Rattle.json.proofs.Truth.{and-right}
+use Rattle.json.proofs.Truth.{and-right, never}
 use Rattle.moving.specs.Moving.{firstByte}
 use Rattle.spelling.proofs.Bytes.{apart, onward-numeric, numeric-not-blank}
 use Rattle.spelling.specs.Leading.{Leading, leading}
@@ -218,17 +217,14 @@ mutual
       ended-as i (n .1) (i .what) (G.nextMember (i .blanks) (i .spelled)) (i .like)
 
 -- Objects, as texts and runs have them.
-no-object : {A : Type 0} → _≡_ {A = ℕ} 0 1 → A
-no-object e = absurd (omega arith)
-
 object-leading : (u : Tree) {ms : Members} {s m r : List ℕ} → Blanks s m → Value u m r → unplaced u ≡ object [] ms → Leading u s r
 unfolding unplaced
 object-leading (object q ns) b v e = leading b v
-object-leading (list q es) b v e = no-object (cc e)
-object-leading (string q cs) b v e = no-object (cc e)
-object-leading (number q ds) b v e = no-object (cc e)
-object-leading (bool q x) b v e = no-object (cc e)
-object-leading (null q) b v e = no-object (cc e)
+object-leading (list q es) b v e = never (cc e)
+object-leading (string q cs) b v e = never (cc e)
+object-leading (number q ds) b v e = never (cc e)
+object-leading (bool q x) b v e = never (cc e)
+object-leading (null q) b v e = never (cc e)
 
 -- What no blank parts behind a byte of a word, none parts behind another.
 whole-anywhere : (p : ℕ) (s : List ℕ) → wholeAfter p s ≡ true → whole s ≡ true

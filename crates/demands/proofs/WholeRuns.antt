@@ -15,9 +15,10 @@ use Rattle.document.specs.Posology.{Posology}
 use Rattle.document.specs.Valid.{Valid, Fits, isUse}
 use Rattle.document.specs.Write.{greatestRoom}
 use Rattle.document.specs.Answer.{ReadNext, takenTo, blankTo, refusedAt, nextBegun, readNext, textAtMost}
-use Rattle.document.proofs.NextTexts.{next-blank, behind-next}
+use Rattle.document.proofs.NextTexts.{behind-next}
 use Rattle.document.proofs.Spelled.{next-spells, spelled-next}
 use Rattle.demands.specs.Runs.{Ended, ended, posologies, andThen, onward, readFrom, AllValid, no-posology, next-posology, RunOf, only-blanks, text-then, Says}
+use Rattle.demands.proofs.RefusalCases.{blank-by}
 
 blanks-left : (purpose room : ℕ) {s : List ℕ} → isUse purpose ≡ true → Blanks s [] → readNext purpose room s ≡ blankTo (length s)
 unfolding readNext
@@ -75,7 +76,7 @@ module _ (purpose room : ℕ) (small : room ≤ greatestRoom) where
 
     first-made : (x : ReadNext) → readNext purpose room s ≡ x → onward from x rest ≡ some es → Made from s es
     first-made (takenTo p e) h g = then-made p e h (rest e) refl g
-    first-made (blankTo n) h g = let a : [] ≡ es = cc g in subst (Made from s) a (no-posology, only-blanks (next-blank purpose room s n h))
+    first-made (blankTo n) h g = let a : [] ≡ es = cc g in subst (Made from s) a (no-posology, only-blanks (blank-by purpose room s h .1))
     first-made (refusedAt n place) h g = let z : _≡_ {A = ℕ} 0 1 = cc in absurd (omega arith)
 
   pub run-made : (n from : ℕ) (s : List ℕ) (es : List Ended) → readFrom n purpose room from s ≡ some es → Made from s es

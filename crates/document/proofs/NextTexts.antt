@@ -1,7 +1,7 @@
 -- The cases of a run's answer, and the first text of a run reordered.
 use mathlib.Core.Path.{_≡_, refl, ap, sym, subst, _∙_}
 use mathlib.Core.List.{List, [], _∷_, _++_}
-use mathlib.Core.Bool.{Bool, true, false, false≢true, cond, _||_}
+use mathlib.Core.Bool.{Bool, true, false, cond, _||_}
 use Prim.Native.Nat.{ℕ, _-_, _≤_}
 use native.Mathlib.Omega.{arith}
 use lib.Dec.{leb, ltb}
@@ -17,20 +17,16 @@ use Rattle.moving.specs.Read.{treeOf}
 use Rattle.spelling.specs.Depth.{depth}
 use Rattle.spelling.specs.Leading.{Leading, leading}
 use Rattle.spelling.proofs.Spells as J
-use Rattle.spelling.proofs.Blanks.{blanks-blanked}
 use Rattle.spelling.proofs.Shorter.{to-sharp, value-sharp}
 use Rattle.spelling.proofs.Shortest.{taken-text}
 use Rattle.document.specs.Posology.{Posology}
 use Rattle.document.specs.Same.{Reordered}
 use Rattle.document.specs.Visit.{Left, Outcome, done, refuse, visit}
 use Rattle.document.specs.Valid.{isUse}
-use Rattle.document.specs.Answer.{Read, taken, refused, visited, readWalked, ReadNext, takenTo, blankTo, refusedAt, upTo, notEnded, nextWalked, nextBegun, readNext, textAtMost}
+use Rattle.document.specs.Answer.{visited, readWalked, takenTo, blankTo, refusedAt, upTo, notEnded, nextWalked, nextBegun, readNext, textAtMost}
 use Rattle.document.proofs.Reorder.{visit-reordered}
 use Rattle.document.proofs.Moves.{reordered-depth}
-use Rattle.json.proofs.Truth.{choose-true}
-
-never : _≡_ {A = ℕ} 0 1 → ⊥
-never e = omega arith
+use Rattle.json.proofs.Truth.{choose-true, never}
 
 pub record NextTaken (purpose room : ℕ) (run : List ℕ) (p : Posology) (e : ℕ) : Type 0 where
   pub for-use : isUse purpose ≡ true
@@ -42,10 +38,10 @@ pub record NextTaken (purpose room : ℕ) (run : List ℕ) (p : Posology) (e : �
   pub is : visit purpose room (treeOf run) ≡ done p left
 
 refused-not-taken : {A : Type 0} (n place e : ℕ) (p : Posology) → refusedAt n place ≡ takenTo p e → A
-refused-not-taken n place e p h = absurd (never (cc h))
+refused-not-taken n place e p h = never (cc h)
 
 blank-not-taken : {A : Type 0} (n e : ℕ) (p : Posology) → blankTo n ≡ takenTo p e → A
-blank-not-taken n e p h = absurd (never (cc h))
+blank-not-taken n e p h = never (cc h)
 
 up-taken : (run : List ℕ) (o : Outcome Posology) (at e : ℕ) (p : Posology) → upTo at (visited run o) ≡ takenTo p e → (at ≡ e) × ((l : Left) × (o ≡ done p l))
 up-taken run (done q l) at e p h = let a : at ≡ e = cc h in let b : q ≡ p = cc h in (a, (l, ap (λ (x : Posology). done x l) b))
@@ -80,41 +76,6 @@ next-taken purpose room run p e h = go (isUse purpose) refl h
     go : (b : Bool) → isUse purpose ≡ b → choose b (λ _. nextBegun purpose room run (blanked run)) (λ _. refusedAt 17 0) ≡ takenTo p e → NextTaken purpose room run p e
     go true u g = begun-taken purpose room run (blanked run) p e u g
     go false u g = refused-not-taken 17 0 e p g
-
--- A run that is not all blanks does not come to blanks.
-abbrev isBlankTo : ReadNext → Bool
-isBlankTo (takenTo p e) = false
-isBlankTo (blankTo n) = true
-isBlankTo (refusedAt n place) = false
-
-up-not-blank : (at : ℕ) (x : Read) → isBlankTo (upTo at x) ≡ false
-up-not-blank at (taken p) = refl
-up-not-blank at (refused n place) = refl
-
-ended-not-blank : (n : ℕ) (run : List ℕ) (place : ℕ) → isBlankTo (notEnded n run place) ≡ false
-ended-not-blank n run place = go (leb (length run) textAtMost || ltb place textAtMost)
-  where
-    go : (b : Bool) → isBlankTo (cond b (refusedAt n place) (refusedAt 1 textAtMost)) ≡ false
-    go true = refl
-    go false = refl
-
-walked-not-blank : (purpose room : ℕ) (run : List ℕ) (w : Walked) → isBlankTo (nextWalked purpose room run w) ≡ false
-walked-not-blank purpose room run (end r) = go (leb (placeIn run r) textAtMost)
-  where
-    go : (b : Bool) → isBlankTo (choose b (λ _. upTo (placeIn run r) (readWalked purpose room run)) λ _. refusedAt 1 textAtMost) ≡ false
-    go true = up-not-blank (placeIn run r) (readWalked purpose room run)
-    go false = refl
-walked-not-blank purpose room run (refused2 q) = ended-not-blank 2 run (placeIn run q)
-walked-not-blank purpose room run (refused3 q) = ended-not-blank 3 run (placeIn run q)
-
-pub next-blank : (purpose room : ℕ) (run : List ℕ) (n : ℕ) → readNext purpose room run ≡ blankTo n → G.Blanks run []
-unfolding readNext
-next-blank purpose room run n h = go (isUse purpose) (blanked run) refl h
-  where
-    go : (b : Bool) (s : List ℕ) → blanked run ≡ s → choose b (λ _. nextBegun purpose room run s) (λ _. refusedAt 17 0) ≡ blankTo n → G.Blanks run []
-    go true [] e g = subst (G.Blanks run) e (blanks-blanked run)
-    go true (b ∷ s) e g = absurd (false≢true (sym (walked-not-blank purpose room run (firstObject run)) ∙ ap isBlankTo g))
-    go false s e g = absurd (false≢true (ap isBlankTo g))
 
 -- A run that begins with an object is not all blanks.
 begins-with : {t : Tree} {run r : List ℕ} → Leading t run r → (s : List ℕ) × (blanked run ≡ 123 ∷ s)

@@ -1,7 +1,6 @@
 -- The numbering is one to one: an answer is known by its values.
 use mathlib.Core.Path.{_≡_, refl, ap, _∙_}
-use Prim.Native.Nat.{ℕ}
-use native.Mathlib.Omega.{arith}
+use Rattle.json.proofs.Truth.{never}
 use Rattle.document.specs.Values.{answerValues, nextValues, writingValues}
 use Rattle.document.specs.declared.table.Reading.{Reading}
 use Rattle.document.specs.declared.table.NextReading.{NextReading}
@@ -13,30 +12,27 @@ use Rattle.document.specs.declared.table.Writing.{Writing}
 use Rattle.document.specs.declared.table.Writing.the-variants as W
 use Rattle.document.specs.declared.table.Table.{Table}
 
-never : _≡_ {A = ℕ} 0 1 → ⊥
-never e = omega arith
-
 pub answer-one : (a b : Answer) → answerValues a ≡ answerValues b → a ≡ b
 answer-one A.Taken A.Taken e = refl
-answer-one A.Taken (A.Refused n p) e = absurd (never (cc e))
-answer-one (A.Refused m q) A.Taken e = absurd (never (cc e))
+answer-one A.Taken (A.Refused n p) e = never (cc e)
+answer-one (A.Refused m q) A.Taken e = never (cc e)
 answer-one (A.Refused m q) (A.Refused n p) e = cc e
 
 pub next-one : (a b : NextAnswer) → nextValues a ≡ nextValues b → a ≡ b
 next-one (N.Taken m) (N.Taken n) e = cc e
-next-one (N.Taken m) (N.Blank n) e = absurd (never (cc e))
-next-one (N.Taken m) (N.Refused n p) e = absurd (never (cc e))
-next-one (N.Blank m) (N.Taken n) e = absurd (never (cc e))
+next-one (N.Taken m) (N.Blank n) e = never (cc e)
+next-one (N.Taken m) (N.Refused n p) e = never (cc e)
+next-one (N.Blank m) (N.Taken n) e = never (cc e)
 next-one (N.Blank m) (N.Blank n) e = cc e
-next-one (N.Blank m) (N.Refused n p) e = absurd (never (cc e))
-next-one (N.Refused m q) (N.Taken n) e = absurd (never (cc e))
-next-one (N.Refused m q) (N.Blank n) e = absurd (never (cc e))
+next-one (N.Blank m) (N.Refused n p) e = never (cc e)
+next-one (N.Refused m q) (N.Taken n) e = never (cc e)
+next-one (N.Refused m q) (N.Blank n) e = never (cc e)
 next-one (N.Refused m q) (N.Refused n p) e = cc e
 
 pub writing-one : (a b : Writing) → writingValues a ≡ writingValues b → a ≡ b
 writing-one (W.Written m) (W.Written n) e = cc e
-writing-one (W.Written m) (W.Refused n p) e = absurd (never (cc e))
-writing-one (W.Refused m q) (W.Written n) e = absurd (never (cc e))
+writing-one (W.Written m) (W.Refused n p) e = never (cc e)
+writing-one (W.Refused m q) (W.Written n) e = never (cc e)
 writing-one (W.Refused m q) (W.Refused n p) e = cc e
 
 -- A reading is known by its answer's values and its table.

@@ -4,7 +4,6 @@ use mathlib.Core.List.{List, [], _∷_, _++_}
 use mathlib.Core.Bool.{Bool, true, false, cond, _||_, _&&_, not, true≢false, false≢true}
 use mathlib.Core.Option.{Option, none, some}
 use Prim.Native.Nat.{ℕ}
-use native.Mathlib.Omega.{arith}
 use lib.Dec.{eqb, leb, ltb}
 use lib.ListN.{length}
 use Rattle.json.specs.Tree.{Place, Tree, Members, Elements}
@@ -19,7 +18,7 @@ use Rattle.document.specs.Date.{dateOf, timeOf}
 use Rattle.document.specs.Lookup.{Entry, same, has, orElse, Found, nothing, one, twice, add, find, repeated, unknown}
 use Rattle.document.specs.Schema.{Family, aPosology, NumberShape, integer, decimal, StringShape, text, date, time, ListShape, fourDecimals, days, some-objects, any-objects, Shape, aNumber, aString, aFlag, anObject, aList, Rows, need, may, gives, gives-if, rowsOf, typesOf, isRecord, mayStand, mayOpen, names}
 use Rattle.document.specs.Visit.{Left, recordLess, Outcome, done, refuse, bind, guard, unless, Value, needed, present, optional, fields, opening, body, placeOf, typed, byType, members, whole, millionths, digits, orRefused, chars, each, isEmpty, distinct, decimals, elements, ofNumber, ofString, ofBool, ofObject, ofList, valueOf, entriesOf, valuesOf, visit, recordsAtMost}
-use Rattle.json.proofs.Truth.{and-left-comm, or-left-comm}
+use Rattle.json.proofs.Truth.{and-left-comm, or-left-comm, never}
 use Rattle.document.proofs.Same.{same-sym}
 use Rattle.document.specs.Same as S
 use Rattle.document.specs.Same.{Reordered, ReorderedMembers, ReorderedElements}
@@ -37,12 +36,9 @@ alike-trans : {A : Type 0} {r s t : Outcome A} → Alike r s → Alike s t → A
 alike-trans both-done h = h
 alike-trans both-refuse both-refuse = both-refuse
 
-never : _≡_ {A = ℕ} 0 1 → ⊥
-never e = omega arith
-
 pub alike-done : {A : Type 0} {r s : Outcome A} {a : A} {l : Left} → Alike r s → r ≡ done a l → s ≡ done a l
 alike-done both-done e = e
-alike-done both-refuse e = absurd (never (cc e))
+alike-done both-refuse e = never (cc e)
 
 bind-alike : {A B : Type 0} {r s : Outcome A} {f g : A → Left → Outcome B} → Alike r s → ((a : A) (l : Left) → Alike (f a l) (g a l)) → Alike (bind r f) (bind s g)
 bind-alike (both-done {a = a} {l = l}) k = k a l

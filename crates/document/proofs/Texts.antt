@@ -3,7 +3,6 @@ use mathlib.Core.Path.{_≡_, refl, ap, _∙_}
 use mathlib.Core.List.{List}
 use mathlib.Core.Bool.{Bool, true, false}
 use Prim.Native.Nat.{ℕ, _≤_}
-use native.Mathlib.Omega.{arith}
 use lib.Dec.{leb}
 use lib.ListN.{length}
 use borrow.Author.Tests.{leb-true, le-leb}
@@ -15,13 +14,10 @@ use Rattle.document.specs.Posology.{Posology}
 use Rattle.document.specs.Visit.{Left, Outcome, done, refuse, visit}
 use Rattle.document.specs.Valid.{isUse}
 use Rattle.document.specs.Answer.{taken, refused, visited, afterWalk, read, textAtMost}
-use Rattle.json.proofs.Truth.{choose-true}
-
-never : _≡_ {A = ℕ} 0 1 → ⊥
-never e = omega arith
+use Rattle.json.proofs.Truth.{choose-true, never}
 
 pub refused-not-taken : {A : Type 0} {n place : ℕ} {p : Posology} → refused n place ≡ taken p → A
-refused-not-taken e = absurd (never (cc e))
+refused-not-taken e = never (cc e)
 
 pub taken-same : {p q : Posology} → taken p ≡ taken q → p ≡ q
 taken-same e = cc e

@@ -1,6 +1,8 @@
--- Tests that both hold, each of them, in another order, and what a test picks.
+-- Tests that both hold, each of them, in another order, what a test picks, and what never holds.
 use mathlib.Core.Path.{_≡_, refl}
 use mathlib.Core.Bool.{Bool, true, false, _&&_, _||_, cond, true≢false, false≢true}
+use Prim.Native.Nat.{ℕ}
+use native.Mathlib.Omega.{arith}
 use Rattle.json.specs.Rows.{choose}
 
 pub and-both : {a b : Bool} → a ≡ true → b ≡ true → (a && b) ≡ true
@@ -39,3 +41,7 @@ cond-false false x y e = refl
 pub choose-true : {A : Type 0} (b : Bool) (x y : Unit {0} → A) → b ≡ true → choose b x y ≡ x tt
 choose-true true x y e = refl
 choose-true false x y e = absurd (false≢true e)
+
+-- Two constructors are never equal: `cc` shows 0 ≡ 1 of them, and so anything.
+pub never : {A : Type 0} → _≡_ {A = ℕ} 0 1 → A
+never e = absurd (omega arith)

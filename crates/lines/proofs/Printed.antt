@@ -8,6 +8,7 @@ use borrow.Author.Tests.{leb-true}
 use lib.Dec.{leb}
 use lib.ListN.{length, drop}
 use lib.Seq.{sets-eq}
+use Rattle.json.proofs.Truth.{never}
 use Rattle.document.specs.Posology.{Posology}
 use Rattle.document.specs.Valid.{Valid, Fits, roomOf, strings}
 use Rattle.document.specs.Table.{tableOf}
@@ -25,9 +26,6 @@ use Rattle.document.proofs.Spelled.{accepted-spells}
 use Rattle.putting.specs.Puts.{greatestPlace, Puts}
 use Rattle.putting.proofs.Laid.{up-to, puts-then}
 use Rattle.lines.specs.Lines.{forPlan, lineFeed, refusalLine, writtenLine, lineOf, line}
-
-never : {A : Type 0} → _≡_ {A = ℕ} 0 1 → A
-never e = absurd (omega arith)
 
 -- Bytes laid over a buffer are put there.
 laid-puts : {before after : List ℕ} {n : ℕ} (bytes rest : List ℕ) → length bytes ≤ length before → length before ≤ greatestPlace → n ≡ length bytes → after ≡ laid bytes before → Puts before 0 (bytes ++ rest) rest n after
