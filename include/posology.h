@@ -1,17 +1,19 @@
-/* ChMed23A posologies (eMediplan, "Posology" 2.1) read and written from C.
+/* ChMed23A posologies (eMediplan, "Posology" 2.1) read, written and kept on a shelf from C.
  *
- * The three functions are proved: for every input, the number that is returned, the place, and each byte of the lent buffers are those that
+ * The seven functions are proved: for every input, the number that is returned, the place, and each byte of the lent buffers are those that
  * docs/FORMAT.md names (docs/PROMISES.md). They allocate nothing, keep nothing between calls and call nothing of the C library but memcpy and
  * memset, which the compiler puts in; what they are lent they use until they return, and not after. Calls in different threads don't meet, as long as no buffer that one of them writes is
  * another's.
  *
  * What the caller sees to, since C can't say it:
- *   - no pointer is NULL, not even where the length beside it is 0, and each leads to as many bytes as that length says; `place` is
- *     aligned as a uint64_t is;
- *   - a buffer that is written (`strings`, `table`, `out`, `*place`) shares no byte with any other buffer of the call;
- *   - the calling thread has 64 KB of stack left (32 KB is the most that was seen used: measured, not proved).
+ *   - no pointer is NULL, not even where the length beside it is 0, and each leads to as many bytes as that length says; `place`, and
+ *     the `number` of posology_shelf_at, are aligned as a uint64_t is;
+ *   - a buffer that is written (`strings`, `table`, `out`, `*place`, `*number`, and the `area` of posology_shelf_put and posology_shelf_remove) shares no
+ *     byte with any other buffer of the call; posology_shelf_fetch and posology_shelf_at only read the area;
+ *   - the calling thread has 64 KB of stack left for posology_read, posology_next and posology_write, and 128 KB for the four of the shelf (32 KB and
+ *     63 KB are the most that was seen used: measured, not proved).
  *
- * Nothing else is asked. Any bytes may be in any buffer, a length may be any, and a use, too, is tested.
+ * Nothing else is asked. Any bytes may be in any buffer, a length may be any, and a use or a number, too, is tested.
  */
 #ifndef POSOLOGY_H
 #define POSOLOGY_H
@@ -23,11 +25,24 @@
 extern "C" {
 #endif
 
+/* One higher with each landing that changes a function, a layout or an answer: 1 had posology_read, posology_next and posology_write, 2 adds the shelf.
+ * A program refuses to build against another version by
+ *     #if POSOLOGY_VERSION != 2
+ *     #error "written for version 2 of posology.h"
+ *     #endif */
+#define POSOLOGY_VERSION 2
+
 /* The size of the area that a table lies in (docs/AREA.md): 410 numbers of 8 bytes, the least significant first. */
 #define POSOLOGY_TABLE_BYTES 3280
 
 /* The most text that a table can name: a longer `strings` buffer is used up to here. */
 #define POSOLOGY_STRINGS_BYTES 2048
+
+/* The most bytes that a shelf's area may have; it may have fewer, and none. */
+#define POSOLOGY_SHELF_BYTES 65535
+
+/* The bytes in front of each plain text on a shelf: a mark, the number, the length (docs/AREA.md). */
+#define POSOLOGY_SHELF_HEAD 6
 
 /* What a posology is for. */
 enum posology_use {
@@ -37,7 +52,7 @@ enum posology_use {
 
 /* What a call returns (docs/FORMAT.md, "Answers by number"); behind each, what `*place` is. */
 enum posology_answer {
-    POSOLOGY_DONE = 0,          /* taken or written: see each function */
+    POSOLOGY_DONE = 0,          /* done: see each function */
     POSOLOGY_TOO_LONG = 1,      /* text longer than 32,768 bytes: 32,768 */
     POSOLOGY_NO_JSON = 2,       /* not one JSON object in UTF-8: the first byte with which the bytes so far begin no such text, or the length */
     POSOLOGY_TOO_DEEP = 3,      /* the 21st { or [ open at once: that byte */
@@ -56,7 +71,12 @@ enum posology_answer {
     POSOLOGY_TEXT_FULL = 16,    /* a string past the text room: the value */
     POSOLOGY_WRONG_USE = 17,    /* use neither 1 nor 3: 0 */
     POSOLOGY_NO_TABLE = 18,     /* writer: bytes that lay out no table, or a table and strings that no text reads to for this use: 0 */
-    POSOLOGY_WRONG_SIZE = 19,   /* area of another size: POSOLOGY_TABLE_BYTES. writer: text longer than `out`: the length needed */
+    POSOLOGY_WRONG_SIZE = 19,   /* `table` of another size: POSOLOGY_TABLE_BYTES. writer: text longer than `out`: the length needed */
+    POSOLOGY_NO_SHELF = 20,     /* shelf: area over 65,535 bytes, not laid out as a shelf, a number 0 or twice, or a text that is no plain text for use 3: 0 */
+    POSOLOGY_NO_NUMBER = 21,    /* shelf: number 0, or over 65,535: 0 */
+    POSOLOGY_NUMBER_TAKEN = 22, /* posology_shelf_put: number already there: 0 */
+    POSOLOGY_NOT_THERE = 23,    /* posology_shelf_fetch, posology_shelf_remove: number not there: 0 */
+    POSOLOGY_NO_ROOM = 24,      /* posology_shelf_put: fewer free bytes than POSOLOGY_SHELF_HEAD and the plain text's length: 0 */
     POSOLOGY_ONLY_BLANKS = 255  /* posology_next: only blanks remain: the run's length */
 };
 
@@ -76,17 +96,37 @@ enum posology_number {
     POSOLOGY_RECORD_NUMBERS = 6
 };
 
-/* Reads one posology text. 0: `table` is its table, the first bytes of `strings` its strings, and *place the text's length.
+/* Reads one posology text (in this form since version 1). 0: `table` is its table, the first bytes of `strings` its strings, and *place the text's length.
  * Any other number: both buffers are as they were lent. */
 uint64_t posology_read(const uint8_t *text, size_t text_len, uint64_t use, uint8_t *strings, size_t strings_len, uint8_t *table, size_t table_len, uint64_t *place);
 
-/* Reads the first posology of a run. 0: as posology_read, and *place is the place behind the posology's last byte, where the next call begins.
+/* Reads the first posology of a run (since version 1). 0: as posology_read, and *place is the place behind the posology's last byte, where the next call begins.
  * Any other number: both buffers are as they were lent. */
 uint64_t posology_next(const uint8_t *run, size_t run_len, uint64_t use, uint8_t *strings, size_t strings_len, uint8_t *table, size_t table_len, uint64_t *place);
 
-/* Writes a table's plain text. 0: it is the first *place bytes of `out`, and those behind are as they were lent.
+/* Writes a table's plain text (since version 1). 0: it is the first *place bytes of `out`, and those behind are as they were lent.
  * Any other number: `out` is as it was lent. */
 uint64_t posology_write(const uint8_t *table, size_t table_len, const uint8_t *strings, size_t strings_len, uint64_t use, uint8_t *out, size_t out_len, uint64_t *place);
+
+/* A shelf keeps posologies as plain texts in one lent area, each under a number from 1 to 65,535, in the order in which they were put; an area of
+ * zeros is an empty shelf. Any bytes may lie in the area: every call goes over all of it first, and refuses with 20 what is no shelf.
+ * Then it refuses with 21, with 22 or 23, with what reading refuses and at its place, with 24, in this order. */
+
+/* Reads a text as posology_read does, with POSOLOGY_STRINGS_BYTES of room, and stores its plain text under the number, behind the last (since version 2).
+ * 0: *place is the length of the plain text. Any other number: the area is as it was lent. */
+uint64_t posology_shelf_put(uint8_t *area, size_t area_len, uint64_t number, const uint8_t *text, size_t text_len, uint64_t use, uint64_t *place);
+
+/* Reads the plain text under a number, for use 3, which takes both uses (since version 2). 0: `table` and `strings` are as posology_read of that plain text
+ * leaves them, and *place is its length. Any other number: both buffers are as they were lent. 16 says that `strings` is too short for it; 19, that
+ * `table` is of another size, comes before all else. */
+uint64_t posology_shelf_fetch(const uint8_t *area, size_t area_len, uint64_t number, uint8_t *strings, size_t strings_len, uint8_t *table, size_t table_len, uint64_t *place);
+
+/* Takes a number and its plain text off the shelf (since version 2). 0: those behind it have moved up, and the room is free for the next put.
+ * Any other number, whose place is 0: the area is as it was lent. */
+uint64_t posology_shelf_remove(uint8_t *area, size_t area_len, uint64_t number);
+
+/* Tells which number stands at a position, counted from 0 (since version 2). 0: *number is that number, or 0 past the last. 20: *number is 0. */
+uint64_t posology_shelf_at(const uint8_t *area, size_t area_len, uint64_t position, uint64_t *number);
 
 #ifdef __cplusplus
 }

@@ -158,12 +158,68 @@ static void taken(void) {
     answers("write", answer, place, 18, 0);
 }
 
+/* 20 to 24, and some of reading between them, on a shelf that has a byte less than two of these texts take. */
+static void shelving(void) {
+    static const uint8_t text[] = "{\"po\":{\"t\":2,\"text\":\"x\"}}";
+    static uint8_t area[2 * (POSOLOGY_SHELF_HEAD + sizeof text - 1) - 1], before[sizeof area];
+    const struct {
+        uint64_t number, use;
+        size_t length;
+        uint64_t answer, place;
+    } puts[] = {
+        {258, POSOLOGY_PRESCRIPTION, sizeof text - 1, 0, sizeof text - 1},
+        {0, 2, 0, 21, 0},
+        {258, 2, 0, 22, 0},
+        {7, 2, 0, 17, 0},
+        {7, POSOLOGY_PRESCRIPTION, 3, 2, 3},
+        {7, POSOLOGY_PRESCRIPTION, sizeof text - 1, 24, 0},
+    };
+    const struct {
+        uint64_t number;
+        size_t room, table_len;
+        uint64_t answer, place;
+    } fetches[] = {
+        {0, sizeof strings, sizeof table - 1, 19, POSOLOGY_TABLE_BYTES},
+        {65536, sizeof strings, sizeof table, 21, 0},
+        {7, sizeof strings, sizeof table, 23, 0},
+        {258, 0, sizeof table, 16, 20},
+    };
+    uint64_t place, answer;
+    lend();
+    for (size_t i = 0; i < sizeof puts / sizeof *puts; i++) {
+        memcpy(before, area, sizeof area);
+        place = ~0ULL;
+        answer = posology_shelf_put(area, sizeof area, puts[i].number, text, puts[i].length, puts[i].use, &place);
+        answers("shelf_put", answer, place, puts[i].answer, puts[i].place);
+        expect("area as lent", answer == 0 || memcmp(area, before, sizeof area) == 0);
+    }
+    for (size_t i = 0; i < sizeof fetches / sizeof *fetches; i++) {
+        place = ~0ULL;
+        answer = posology_shelf_fetch(area, sizeof area, fetches[i].number, strings, fetches[i].room, table, fetches[i].table_len, &place);
+        answers("shelf_fetch", answer, place, fetches[i].answer, fetches[i].place);
+    }
+    answers("shelf_remove", posology_shelf_remove(area, sizeof area, 0), 0, 21, 0);
+    answers("shelf_remove", posology_shelf_remove(area, sizeof area, 7), 0, 23, 0);
+    expect("area as lent", memcmp(area, before, sizeof area) == 0);
+    before[0] = area[0] = 0;
+    answer = posology_shelf_put(area, sizeof area, 0, text, 0, 2, &place);
+    answers("shelf_put", answer, place, 20, 0);
+    answer = posology_shelf_fetch(area, sizeof area, 0, strings, sizeof strings, table, sizeof table, &place);
+    answers("shelf_fetch", answer, place, 20, 0);
+    answers("shelf_remove", posology_shelf_remove(area, sizeof area, 0), 0, 20, 0);
+    place = ~0ULL;
+    answer = posology_shelf_at(area, sizeof area, 0, &place);
+    answers("shelf_at", answer, place, 20, 0);
+    expect("all as lent", memcmp(area, before, sizeof area) == 0 && untouched(strings, sizeof strings) && untouched(table, sizeof table));
+}
+
 int main(void) {
     reading();
     blanks();
     no_table();
     wrong_size();
     taken();
+    shelving();
     printf(wrong ? "%d wrong\n" : "all as documented\n", wrong);
     return wrong != 0;
 }

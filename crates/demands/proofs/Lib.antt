@@ -7,6 +7,7 @@ pub mod BlanksBetween
 -- What an answer leaves, and a table written and read
 pub mod Leaves
 pub mod TablesBack
+pub mod PlanPrescribed
 -- Runs
 pub mod WholeRuns
 pub mod PlainRuns

@@ -6,3 +6,6 @@ pub mod WrittenRead
 pub mod RunCalls
 pub mod TextCalls
 pub mod WriteCalls
+pub mod FetchCalls
+pub mod ShelfAnswers
+pub mod ShelfSide

@@ -2,8 +2,13 @@
 mod laying;
 mod reading;
 mod running;
+mod shelving;
 mod writing;
 
 pub use reading::posology_read;
 pub use running::posology_next;
+pub use shelving::posology_shelf_at;
+pub use shelving::posology_shelf_fetch;
+pub use shelving::posology_shelf_put;
+pub use shelving::posology_shelf_remove;
 pub use writing::posology_write;

@@ -4,5 +4,6 @@ mod reader;
 
 pub use next::next_words;
 pub use next::read_next;
+pub use reader::empty_table;
 pub use reader::read;
 pub use reader::read_words;

@@ -28,7 +28,7 @@ fn no_text() -> Text
     Text { start: 0, len: 0 }
 }
 
-pub(crate) fn empty_table() -> Table
+pub fn empty_table() -> Table
     ensures { λ r. ⌜ r ≡ emptyTable ⌝ }
 {
     Table {

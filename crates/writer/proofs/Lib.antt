@@ -3,4 +3,4 @@ mod QuotedDates
 mod HeadTexts
 mod Printed
 mod PrintedDetail
-mod Written
+pub mod Written

@@ -6,10 +6,10 @@ use Rattle.vectors.proofs.run.Statement.{statement}
 use Rattle.vectors.proofs.run.Tie as tie
 
 abbrev Inv-loop : tie.InvT-loop
-Inv-loop chunk₀ text₀ strings₀ line₀ left₀ chunk text strings line left = (length chunk ≡ length chunk₀) × (length text ≡ length text₀) × (length strings ≡ length strings₀)
+Inv-loop chunk₀ text₀ strings₀ c₀ left₀ chunk text strings c left = (length chunk ≡ length chunk₀) × (length text ≡ length text₀) × (length strings ≡ length strings₀)
 
 abbrev μ-loop : tie.MeasureT-loop
-μ-loop chunk₀ text₀ strings₀ line₀ left₀ chunk text strings line left = left
+μ-loop chunk₀ text₀ strings₀ c₀ left₀ chunk text strings c left = left
 
 fresh-requires : tie.Need-fresh-requires Inv-loop μ-loop
 fresh-requires c κs = search needs

@@ -7,10 +7,10 @@ use Rattle.vectors.proofs.through.Statement.{statement}
 use Rattle.vectors.proofs.through.Tie as tie
 
 abbrev Inv-loop : tie.InvT-loop
-Inv-loop chunk text₀ strings₀ line₀ i₀ text strings line i = (length text ≡ length text₀) × (length strings ≡ length strings₀)
+Inv-loop chunk text₀ strings₀ c₀ i₀ text strings c i = (length text ≡ length text₀) × (length strings ≡ length strings₀)
 
 abbrev μ-loop : tie.MeasureT-loop
-μ-loop chunk text₀ strings₀ line₀ i₀ text strings line i = length chunk - i
+μ-loop chunk text₀ strings₀ c₀ i₀ text strings c i = length chunk - i
 
 loop-holds : tie.Need-loop-holds Inv-loop μ-loop
 loop-holds c = search needs

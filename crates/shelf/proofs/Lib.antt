@@ -1,0 +1,10 @@
+pub mod SurveyLaws
+pub mod Noting
+pub mod RecordLaws
+pub mod PlainLaws
+pub mod Turns
+pub mod Surveyed
+pub mod Serving
+pub mod FoundTexts
+pub mod Determined
+pub mod PutFetched

@@ -1,0 +1,4 @@
+pub mod MarkLaws
+pub mod HeadLaws
+pub mod GapLaws
+pub mod LayLaws
