@@ -1,4 +1,5 @@
--- What the function's proof uses, and that its contract allows one answer.
+-- What the function's proof uses, what its answer says of reading, and that its contract allows one answer.
 mod PlainPut
 mod Rewritten
+pub mod Reread
 pub mod Determined

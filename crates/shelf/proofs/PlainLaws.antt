@@ -3,23 +3,21 @@ use mathlib.Core.Path.{_≡_, refl, ap, sym, _∙_}
 use mathlib.Core.List.{List}
 use mathlib.Core.Bool.{Bool, true, false, cond}
 use mathlib.Core.Option.{Option, none, some}
-use Prim.Native.Nat.{ℕ, _≤_, _<_}
+use Prim.Native.Nat.{ℕ, _<_}
 use native.Mathlib.Omega.{arith}
-use lib.ListN.{length, take, drop}
-use lib.Seq.{take-at}
-use Rattle.json.proofs.Truth.{never, never-true}
+use lib.ListN.{length, take}
+use Rattle.json.proofs.Truth.{never-true}
 use Rattle.document.specs.Lookup.{same}
 use Rattle.document.specs.Posology.{Posology}
 use Rattle.document.specs.Plain.{plain}
-use Rattle.document.specs.Values.{ends, number}
 use Rattle.document.specs.Answer.{Read, taken, refused, read}
-use Rattle.document.specs.Write.{writeValues, bufferAfter, greatestRoom}
+use Rattle.document.specs.Write.{greatestRoom}
 use Rattle.document.specs.declared.table.Writing.the-variants as W
 use Rattle.document.proofs.Same.{same-refl, same-equal}
-use Rattle.document.proofs.Spelled.{accepted-spells}
 use Rattle.shelf_list.specs.Shelf.{bothUses, isGiven, ifPlain, plainOf, isPlain}
 use Rattle.shelf_list.proofs.Records.{plain-short, plain-of-text}
-use Rattle.rewriting.specs.Rewriting.{plainOfRead, rewritten, Rewrites}
+use Rattle.rewriting.specs.Rewriting.{Rewrites}
+use Rattle.rewriting.proofs.Reread.{read-refused, read-taken}
 
 -- As the comparison of two slices tells it.
 pub told-same : (s t : List ℕ) (r : Bool) → (r ≡ true → s ≡ t) → (s ≡ t → r ≡ true) → r ≡ same s t
@@ -49,33 +47,12 @@ is-same p false = refl
 -- What is refused is none.
 pub refused-none : {text before after : List ℕ} {n place : ℕ} → Rewrites bothUses text before (W.Refused n place) after
     → false ≡ isPlain text
-unfolding rewritten
-refused-none {text} {n = n} {place = place} h = go (read bothUses greatestRoom text) refl (h .answer)
-  where
-    go : (x : Read) → read bothUses greatestRoom text ≡ x → number n place ≡ writeValues (plainOfRead x) → false ≡ isPlain text
-    go (taken p) i e = never (cc)
-    go (refused m q) i e = sym (plain-of-read text (refused m q) i)
+refused-none {text} {n = n} {place = place} h = sym (plain-of-read text (refused n place) (read-refused h))
 
 -- What was put stands first in the buffer: the text is plain where it is the same.
-pub record Again (text after : List ℕ) (n : ℕ) : Type 0 where
-  pub small : n ≤ 20736
-  pub is : isPlain text ≡ same (take n after) text
-
-pub put-again : {text before after : List ℕ} {n : ℕ} → Rewrites bothUses text before (W.Written n) after → Again text after n
-unfolding rewritten
-put-again {text} {before} {after} {n} h = go (read bothUses greatestRoom text) refl (h .answer) (h .left)
-  where
-    go : (x : Read) → read bothUses greatestRoom text ≡ x → ends n ≡ writeValues (plainOfRead x)
-        → after ≡ bufferAfter (plainOfRead x) before → Again text after n
-    go (taken p) i e f =
-        let a = accepted-spells bothUses greatestRoom text p i in
-        let m : n ≡ length (plain p) = cc in
-        let s = plain-short p (a .1 .1) (a .3) in
-        record {
-          small = omega arith;
-          is =
-              plain-of-read text (taken p) i
-              ∙ is-same p (same (plain p) text)
-              ∙ ap (λ (b : List ℕ). same b text) (sym (ap (take n) f ∙ take-at (plain p) (drop (length (plain p)) before) n (sym m)));
-        }
-    go (refused m q) i e f = never (cc)
+pub plain-if-same : {text before after : List ℕ} {n : ℕ} → Rewrites bothUses text before (W.Written n) after
+    → same (take n after) text ≡ isPlain text
+plain-if-same {text} h =
+    let r = read-taken h in
+    let p = r .posology in
+    ap (λ (s : List ℕ). same s text) (r .first) ∙ sym (is-same p (same (plain p) text)) ∙ sym (plain-of-read text (taken p) (r .taken))

@@ -7,18 +7,16 @@ use mathlib.Core.Logic.{_⊎_, inl, inr}
 use Prim.Native.Nat.{ℕ, _+_, _-_, _/_, _%_, _≤_}
 use native.Mathlib.Omega.{arith}
 use lib.Dec.{leb}
-use lib.ListN.{length, take, drop, length-append}
-use lib.Seq.{sets, take-at}
+use lib.ListN.{length, take}
+use lib.Seq.{sets}
 use borrow.Author.Tests.{le-leb, leb-true, leb-false}
 use Rattle.json.proofs.Truth.{cond-true, cond-false, never}
 use Rattle.document.specs.Posology.{Posology}
 use Rattle.document.specs.Plain.{plain}
-use Rattle.document.specs.Values as Values
 use Rattle.document.specs.Answer as R
-use Rattle.document.specs.Answer.{Read, read}
-use Rattle.document.specs.Write.{writeValues, bufferAfter, greatestRoom}
-use Rattle.document.specs.declared.table.Writing.the-variants as W
-use Rattle.rewriting.specs.Rewriting.{plainOfRead, rewritten, Rewrites}
+use Rattle.document.specs.Answer.{read}
+use Rattle.document.specs.Write.{greatestRoom}
+use Rattle.rewriting.proofs.Reread.{ReadAs}
 use Rattle.shelf_list.specs.Shelf.{Entry, entry, isNumber, twoBytes, recordThen, size, used, laidOut, stands, Holds, entriesIn}
 use Rattle.shelf_list.specs.Calls.{Call, put, remove, at, Answer, stored, removed, standing, refused, answers, without, roomFor, onList, laidAgain, onArea, Outcome, Serves}
 use Rattle.shelf_list.specs.Grounds.{NoNumber, for-put, for-remove, text-put, too-long}
@@ -104,37 +102,6 @@ pub puts-no-other : (a : List ℕ) (es : List Entry) (number purpose : ℕ) (tex
     → stands number es ≡ true → r ≡ refused 22 0 → Serves (put number purpose text) a r a
 puts-no-other a es number purpose text h i s e =
     refuses e (answer-on-shelf (put number purpose text) a es h ∙ gives-22 (length a) es (for-put i s))
-
--- What putting a text again says of reading it.
-pub read-refused : {purpose : ℕ} {text before after : List ℕ} {m place : ℕ} → Rewrites purpose text before (W.Refused m place) after
-    → read purpose greatestRoom text ≡ R.refused m place
-unfolding rewritten
-read-refused {purpose} {text} {m = m} {place = place} h = go (read purpose greatestRoom text) refl (h .answer)
-  where
-    go : (x : Read) → read purpose greatestRoom text ≡ x → Values.number m place ≡ writeValues (plainOfRead x) → x ≡ R.refused m place
-    go (R.taken p) i e = never (cc)
-    go (R.refused k q) i e = cc
-
-pub record ReadAs (purpose : ℕ) (text after : List ℕ) (n : ℕ) : Type 0 where
-  pub posology : Posology
-  pub taken : read purpose greatestRoom text ≡ R.taken posology
-  pub first : take n after ≡ plain posology
-  pub long : n ≡ length (plain posology)
-  pub inside : n ≤ length after
-
-pub read-taken : {purpose n : ℕ} {text before after : List ℕ} → Rewrites purpose text before (W.Written n) after
-    → ReadAs purpose text after n
-unfolding rewritten
-read-taken {purpose} {n} {text} {before} {after} h = go (read purpose greatestRoom text) refl (h .answer) (h .left)
-  where
-    go : (x : Read) → read purpose greatestRoom text ≡ x → Values.ends n ≡ writeValues (plainOfRead x)
-        → after ≡ bufferAfter (plainOfRead x) before → ReadAs purpose text after n
-    go (R.taken p) i e f =
-        let m : n ≡ length (plain p) = cc in
-        let rest = drop (length (plain p)) before in
-        let l : length after ≡ length (plain p) + length rest = ap length f ∙ length-append (plain p) rest in
-        record { posology = p; taken = i; first = ap (take n) f ∙ take-at (plain p) rest n (sym m); long = m; inside = omega arith }
-    go (R.refused k q) i e f = never (cc)
 
 pub puts-unread : (a : List ℕ) (es : List Entry) (number purpose : ℕ) (text : List ℕ) {r : Answer} {m place : ℕ} → Holds a es
     → isNumber number ≡ true → stands number es ≡ false → read purpose greatestRoom text ≡ R.refused m place → r ≡ refused m place

@@ -16,6 +16,7 @@ use Rattle.shelf_list.specs.Shelf.{areaAtMost, Entry, entry, size, stands, once
 use Rattle.shelf_list.proofs.Records.{begins-begun, record-size}
 use Rattle.shelf_list.proofs.Areas.{few}
 use Rattle.shelf_list.proofs.Lists.{and-false, stands-last, once-append}
+use Rattle.shelf_list.proofs.Under.{not-given}
 use Rattle.shelf_list.proofs.Walks.{Walked, walk-starts, walk-goes-on, walk-ends, walk-meets-no-record, walk-meets-no-plain, walk-meets-number-twice}
 use Rattle.shelf_bytes.specs.Marks.{marked, isNew}
 use Rattle.shelf_bytes.proofs.HeadLaws.{head-at, zeros-not, zeros-end}
@@ -46,10 +47,6 @@ once-not (f ∷ es) e h = go (eqb (e .number) (f .number)) refl h (once-not es e
         let s = stands-last (f .number) es e ∙ ap (λ (b : Bool). b || stands (f .number) es) (eqb-sym (f .number) (e .number) ∙ i) in
         ap (λ (b : Bool). not b && once (es ++ (e ∷ []))) s
     go false i k below = and-false (not (stands (f .number) (es ++ (e ∷ [])))) (once (es ++ (e ∷ []))) (below k)
-
-not-given : (o : Option Posology) → isGiven o ≡ false → o ≡ none
-not-given none k = refl
-not-given (some p) k = absurd (true≢false k)
 
 module _ (a : List ℕ) (number position : ℕ) where
   no-list : entriesIn a ≡ none → noShelf ≡ surveyed number position (entriesIn a)

@@ -9,6 +9,10 @@ use Rattle.document.specs.Posology.{Posology}
 use Rattle.shelf_list.specs.Shelf.{Entry, stands, isGiven}
 use Rattle.shelf_list.specs.Calls.{under}
 
+pub not-given : (o : Option Posology) → isGiven o ≡ false → o ≡ none
+not-given none h = refl
+not-given (some p) h = absurd (true≢false h)
+
 pub stands-given : (n : ℕ) (es : List Entry) → stands n es ≡ isGiven (under n es)
 stands-given n [] = refl
 stands-given n (e ∷ es) = go (eqb n (e .number)) (stands-given n es)
@@ -24,8 +28,4 @@ pub none-under : (n : ℕ) (es : List Entry) → under n es ≡ none → stands 
 none-under n es u = stands-given n es ∙ ap isGiven u
 
 pub under-none : (n : ℕ) (es : List Entry) → stands n es ≡ false → under n es ≡ none
-under-none n es s = go (under n es) (sym (stands-given n es) ∙ s)
-  where
-    go : (o : Option Posology) → isGiven o ≡ false → o ≡ none
-    go none h = refl
-    go (some p) h = absurd (true≢false h)
+under-none n es s = not-given (under n es) (sym (stands-given n es) ∙ s)

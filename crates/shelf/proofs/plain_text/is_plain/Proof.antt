@@ -1,7 +1,7 @@
 -- A text read, put again and compared.
-use mathlib.Core.Path.{sym, _∙_}
-use native.Mathlib.Omega.{arith}
-use Rattle.shelf.proofs.PlainLaws.{too-long-for-plain, refused-none, put-again}
+use mathlib.Core.Path.{_∙_}
+use Rattle.rewriting.proofs.Reread.{read-taken}
+use Rattle.shelf.proofs.PlainLaws.{too-long-for-plain, refused-none, plain-if-same}
 use borrow.Author.Needs.{needs}
 use Rattle.shelf.proofs.plain_text.is_plain.Statement.{statement}
 use Rattle.shelf.proofs.plain_text.is_plain.Tie as tie
@@ -24,14 +24,12 @@ returns-2 c = refused-none (rw (c .enum-told .given .1) at (c .before .before .r
 agree-requires : tie.Need-agree-requires
 agree-requires c κs =
     let w = c .before .before .before in
-    let a = put-again (rw (w .w .given .1) at (w .before .before .rewrite .ensures)) in
-    omega (arith, a .small)
+    read-taken (rw (w .w .given .1) at (w .before .before .rewrite .ensures)) .inside
 
 returns-3 : tie.Need-returns-3
 returns-3 c =
     let w = c .before .before .before .before in
-    let a = put-again (rw (w .w .given .1) at (w .before .before .rewrite .ensures)) in
-    c .agree .ensures ∙ sym (a .is)
+    c .agree .ensures ∙ plain-if-same (rw (w .w .given .1) at (w .before .before .rewrite .ensures))
 
 pub is-plain-spec : {M : Type 1} → statement M
 is-plain-spec =
