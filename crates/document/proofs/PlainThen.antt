@@ -39,7 +39,7 @@ boolean-then true j k = refl
 boolean-then false j k = refl
 
 -- A name and its value.
-named-then : {v : List ℕ} (n w k : List ℕ) → v ≡ w ++ k → quoted n (58 ∷ v) ≡ quoted n (58 ∷ w) ++ k
+pub named-then : {v : List ℕ} (n w k : List ℕ) → v ≡ w ++ k → quoted n (58 ∷ v) ≡ quoted n (58 ∷ w) ++ k
 named-then n w k e = ap (λ (s : List ℕ). quoted n (58 ∷ s)) e ∙ quoted-then n (58 ∷ w) k
 
 mutual

@@ -1,124 +1,51 @@
--- A plain text in front of other bytes, and its last byte: so bytes used end at the last byte that is not zero.
+-- The last byte of a plain text is a brace: so bytes used end at the last byte that is not zero.
 use mathlib.Core.Path.{_≡_, refl, ap, sym, _∙_}
 use mathlib.Core.List.{List, [], _∷_, _++_, append-nil, append-assoc}
-use mathlib.Core.Bool.{Bool, true, false, cond}
+use mathlib.Core.Bool.{true, false}
 use Prim.Native.Nat.{ℕ, zero, suc, _-_}
 use native.Mathlib.Omega.{arith}
-use lib.Dec.{eqb, ltb}
+use lib.Dec.{eqb}
 use lib.ListN.{length, replicate, length-append}
-use Rattle.json.specs.Rows.{Rows, else, below, look}
-use Rattle.json.specs.Tree.{Tree, object, list, string, number, bool, null, Members, noMember, member, Elements, noElement, element}
-use Rattle.document.specs.Posology.{Posology}
-use Rattle.document.specs.Spell.{control, escaped, quoted, boolean, spell, firstMember, moreMembers, firstElement, moreElements}
-use Rattle.document.specs.Plain.{plain, plainThen, plainTree, membersOf, headSlots}
+use Rattle.json.specs.Tree.{Tree, Members, noMember, member}
 use Rattle.json.proofs.Truth.{cond-true, cond-false}
+use Rattle.document.specs.Posology.{Posology}
+use Rattle.document.specs.Spell.{quoted, spell, firstMember, moreMembers}
+use Rattle.document.specs.Plain.{plain, plainThen, plainTree, membersOf, headSlots}
 use Rattle.document.specs.Valid.{every}
+use Rattle.document.proofs.PlainThen.{named-then, spell-then}
 use Rattle.shelf_list.specs.Shelf.{Entry, twoBytes, recordThen, used, recordsThen, goodEntry, Holds, isZeros, bytesUsed}
 use Rattle.shelf_list.proofs.Records.{good-each}
 use Rattle.shelf_list.proofs.Lists.{and-false}
 use Rattle.shelf_list.proofs.Areas.{records-length, zeros-zeros}
 use Rattle.shelf_list.proofs.Edits.{record-then, records-then}
 
-abbrev rowsOf : {A B : Type 0} → (A → B) → Rows A → Rows B
-rowsOf f (else a) = else (f a)
-rowsOf f (below n a rows) = below n (f a) (rowsOf f rows)
-
-look-of : {A B : Type 0} (f : A → B) (b : ℕ) (rows : Rows A) → f (look b rows) ≡ look b (rowsOf f rows)
-unfolding look
-look-of f b (else a) = refl
-look-of f b (below n a rows) = go (ltb b n) (look-of f b rows)
-  where
-    go : (t : Bool) → f (look b rows) ≡ look b (rowsOf f rows) → f (cond t a (look b rows)) ≡ cond t (f a) (look b (rowsOf f rows))
-    go true i = refl
-    go false i = i
-
-abbrev escapedRows : ℕ → List ℕ → Rows (List ℕ)
-escapedRows b k =
-    below 8 (control b k) (below 9 (92 ∷ 98 ∷ k) (below 10 (92 ∷ 116 ∷ k) (below 11 (92 ∷ 110 ∷ k) (below 12 (control b k)
-    (below 13 (92 ∷ 102 ∷ k) (below 14 (92 ∷ 114 ∷ k) (below 32 (control b k) (below 34 (b ∷ k) (below 35 (92 ∷ 34 ∷ k)
-    (below 92 (b ∷ k) (below 93 (92 ∷ 92 ∷ k) (else (b ∷ k)))))))))))))
-
-escaped-then : (b : ℕ) (j k : List ℕ) → escaped b (j ++ k) ≡ escaped b j ++ k
-unfolding escaped
-escaped-then b j k = sym (look-of (λ (s : List ℕ). s ++ k) b (escapedRows b j))
-
-quoted-then : (cs j k : List ℕ) → quoted cs (j ++ k) ≡ quoted cs j ++ k
-unfolding quoted
-quoted-then [] j k = refl
-quoted-then (c ∷ cs) j k = ap (escaped c) (quoted-then cs j k) ∙ escaped-then c (quoted cs j) k
-
-boolean-then : (b : Bool) (j k : List ℕ) → boolean b (j ++ k) ≡ boolean b j ++ k
-boolean-then true j k = refl
-boolean-then false j k = refl
-
-mutual
-  unfolding spell
-
-  pub spell-then : (t : Tree) (j k : List ℕ) → spell t (j ++ k) ≡ spell t j ++ k
-  spell-then (object p ms) j k = ap (λ (s : List ℕ). 123 ∷ s) (first-member-then ms j k)
-  spell-then (list p es) j k = ap (λ (s : List ℕ). 91 ∷ s) (first-element-then es j k)
-  spell-then (string p cs) j k = ap (λ (s : List ℕ). 34 ∷ s) (quoted-then cs j k)
-  spell-then (number p raw) j k = sym (append-assoc raw j k)
-  spell-then (bool p b) j k = boolean-then b j k
-  spell-then (null p) j k = refl
-
-  first-member-then : (ms : Members) (j k : List ℕ) → firstMember ms (j ++ k) ≡ firstMember ms j ++ k
-  first-member-then noMember j k = refl
-  first-member-then (member q n t ms) j k =
-      ap (λ (s : List ℕ). 34 ∷ quoted n (58 ∷ spell t s)) (more-members-then ms j k)
-      ∙ ap (λ (s : List ℕ). 34 ∷ quoted n (58 ∷ s)) (spell-then t (moreMembers ms j) k)
-      ∙ ap (λ (s : List ℕ). 34 ∷ s) (quoted-then n (58 ∷ spell t (moreMembers ms j)) k)
-
-  more-members-then : (ms : Members) (j k : List ℕ) → moreMembers ms (j ++ k) ≡ moreMembers ms j ++ k
-  more-members-then noMember j k = refl
-  more-members-then (member q n t ms) j k =
-      ap (λ (s : List ℕ). 44 ∷ 34 ∷ quoted n (58 ∷ spell t s)) (more-members-then ms j k)
-      ∙ ap (λ (s : List ℕ). 44 ∷ 34 ∷ quoted n (58 ∷ s)) (spell-then t (moreMembers ms j) k)
-      ∙ ap (λ (s : List ℕ). 44 ∷ 34 ∷ s) (quoted-then n (58 ∷ spell t (moreMembers ms j)) k)
-
-  first-element-then : (es : Elements) (j k : List ℕ) → firstElement es (j ++ k) ≡ firstElement es j ++ k
-  first-element-then noElement j k = refl
-  first-element-then (element t es) j k = ap (spell t) (more-elements-then es j k) ∙ spell-then t (moreElements es j) k
-
-  more-elements-then : (es : Elements) (j k : List ℕ) → moreElements es (j ++ k) ≡ moreElements es j ++ k
-  more-elements-then noElement j k = refl
-  more-elements-then (element t es) j k =
-      ap (λ (s : List ℕ). 44 ∷ spell t s) (more-elements-then es j k) ∙ ap (λ (s : List ℕ). 44 ∷ s) (spell-then t (moreElements es j) k)
-
-pub plain-then : (p : Posology) (k : List ℕ) → plainThen p k ≡ plain p ++ k
-unfolding plainThen
-plain-then p k = spell-then (plainTree p) [] k
-
--- The last byte of a plain text is a brace.
+-- Bytes whose last is a brace.
 pub record Ends (s : List ℕ) : Type 0 where
   pub before : List ℕ
   pub is : s ≡ before ++ (125 ∷ [])
+
+-- A name and its value, and what follows them.
+named-end : (n : List ℕ) (t : Tree) {s : List ℕ} → Ends s → Ends (quoted n (58 ∷ spell t s))
+named-end n t e =
+    let brace : List ℕ = 125 ∷ [] in
+    record {
+      before = quoted n (58 ∷ spell t (e .before));
+      is = named-then n (spell t (e .before)) brace (ap (spell t) (e .is) ∙ spell-then t (e .before) brace);
+    }
 
 more-members-end : (ms : Members) → Ends (moreMembers ms [])
 unfolding spell
 more-members-end noMember = record { before = []; is = refl }
 more-members-end (member q n t ms) =
-    let e = more-members-end ms in
-    record {
-      before = 44 ∷ 34 ∷ quoted n (58 ∷ spell t (e .before));
-      is =
-          ap (λ (s : List ℕ). 44 ∷ 34 ∷ quoted n (58 ∷ spell t s)) (e .is)
-          ∙ ap (λ (s : List ℕ). 44 ∷ 34 ∷ quoted n (58 ∷ s)) (spell-then t (e .before) (125 ∷ []))
-          ∙ ap (λ (s : List ℕ). 44 ∷ 34 ∷ s) (quoted-then n (58 ∷ spell t (e .before)) (125 ∷ []));
-    }
+    let e = named-end n t (more-members-end ms) in
+    record { before = 44 ∷ 34 ∷ e .before; is = ap (λ (s : List ℕ). 44 ∷ 34 ∷ s) (e .is) }
 
 first-member-end : (ms : Members) → Ends (firstMember ms [])
 unfolding spell
 first-member-end noMember = record { before = []; is = refl }
 first-member-end (member q n t ms) =
-    let e = more-members-end ms in
-    record {
-      before = 34 ∷ quoted n (58 ∷ spell t (e .before));
-      is =
-          ap (λ (s : List ℕ). 34 ∷ quoted n (58 ∷ spell t s)) (e .is)
-          ∙ ap (λ (s : List ℕ). 34 ∷ quoted n (58 ∷ s)) (spell-then t (e .before) (125 ∷ []))
-          ∙ ap (λ (s : List ℕ). 34 ∷ s) (quoted-then n (58 ∷ spell t (e .before)) (125 ∷ []));
-    }
+    let e = named-end n t (more-members-end ms) in
+    record { before = 34 ∷ e .before; is = ap (λ (s : List ℕ). 34 ∷ s) (e .is) }
 
 pub plain-ends : (p : Posology) → Ends (plain p)
 unfolding plainThen plainTree spell
