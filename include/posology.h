@@ -25,12 +25,13 @@
 extern "C" {
 #endif
 
-/* One higher with each landing that changes a function, a layout or an answer: 1 had posology_read, posology_next and posology_write, 2 adds the shelf.
+/* One higher with each landing that changes a function, a layout or an answer: 1 had posology_read, posology_next and posology_write, 2 adds the shelf,
+ * 3 compares two dates with a time as moments (answers 12, 18 and 20).
  * A program refuses to build against another version by
- *     #if POSOLOGY_VERSION != 2
- *     #error "written for version 2 of posology.h"
+ *     #if POSOLOGY_VERSION != 3
+ *     #error "written for version 3 of posology.h"
  *     #endif */
-#define POSOLOGY_VERSION 2
+#define POSOLOGY_VERSION 3
 
 /* The size of the area that a table lies in (docs/AREA.md): 410 numbers of 8 bytes, the least significant first. */
 #define POSOLOGY_TABLE_BYTES 3280

@@ -89,6 +89,7 @@ static void reading(void) {
     refuses("{\"po\":{\"t\":3,\"tdo\":{\"t\":4}}}", 10, 24);
     refuses("{\"po\":{\"t\":1,\"ds\":[1,0,2]}}", 11, 18);
     refuses("{\"po\":{\"t\":3,\"tdo\":{\"t\":1,\"do\":{\"t\":3,\"aMin\":1.0,\"aMax\":1}}}}", 12, 31);
+    refuses("{\"dtFrom\":\"2024-03-05T23:30:00+01:00\",\"dtTo\":\"2024-03-06T00:15:00+02:00\",\"po\":{\"t\":2,\"text\":\"x\"}}", 12, 0);
     refuses("{\"dtFrom\":\"2023-02-29\",\"po\":{\"t\":2,\"text\":\"x\"}}", 13, 10);
     refuses("{\"po\":" SEQUENCE(SEQUENCE(SEQUENCE(SEQUENCE("{\"t\":1,\"ds\":[1,0,0,0]}")))) "}", 14, 6 + 3 * 41 + 5);
     too_many_records();

@@ -3,7 +3,8 @@ use mathlib.Core.Path.{_≡_}
 use mathlib.Core.List.{List}
 use mathlib.Core.Bool.{Bool, true, _&&_}
 use Prim.Native.Nat.{ℕ, _+_, _*_, _≤_}
-use Rattle.document.specs.Date.{isDate, inOrder, isSecond, isZone}
+use Rattle.document.specs.Date.{isDate, isSecond, isZone}
+use Rattle.document.specs.Moments.{inOrder}
 use Rattle.document.specs.Schema.{mealCodes}
 use Rattle.document.specs.Valid.{ifGiven}
 use Rattle.document.specs.Untable.{dateOf, zoneOf}

@@ -2,6 +2,7 @@
 use crate::check;
 use crate::check::Checked;
 use document::dates;
+use document::moments;
 use document::table::Date;
 use document::table::Head;
 use document::table::MEAL_CODES;
@@ -68,7 +69,7 @@ fn head_right(h: Head, purpose: u64) -> bool
     }
     if is_date(from) {
         if is_date(to) {
-            if dates::in_order(from, to) {
+            if moments::in_order(from, to) {
                 if purpose == 3 {
                     return true;
                 }

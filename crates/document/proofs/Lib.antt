@@ -20,6 +20,7 @@ pub mod Spelled
 pub mod NextTexts
 pub mod Written
 pub mod WrittenDates
+pub mod DayNumbers
 pub mod PlainMeans
 pub mod PlainHead
 pub mod PlainDepth
@@ -40,4 +41,5 @@ pub mod Strings
 pub mod Untabled
 pub mod Tables
 pub mod Numbered
+pub mod Wish3
 mod Calendar

@@ -10,7 +10,7 @@ use lib.ListN.{length, replicate, length-append}
 use borrow.Author.Tests.{ne-eqb}
 use Rattle.document.specs.Posology as P
 use Rattle.document.specs.Posology.{Posology, AtTime, InSegment, Timed, Detail, SequenceObject, SequenceObjects}
-use Rattle.document.specs.Date.{inOrder}
+use Rattle.document.specs.Moments.{inOrder}
 use Rattle.document.specs.Schema.{mealCodes, sequencesInside}
 use Rattle.document.specs.Visit.{isEmpty}
 use Rattle.document.specs.Valid.{isText, isMeal, ifGiven, valid, validDetail, timedRecords, detailRecords, objectRecords, objectsRecords, given, detailStrings, objectStrings, strings}

@@ -5,7 +5,8 @@ use Prim.Native.Nat.{ℕ, _≤_}
 use lib.Dec.{leb}
 use borrow.Author.Tests.{leb-true, le-leb}
 use Rattle.document.specs.Posology.{Posology}
-use Rattle.document.specs.Date.{isDate, inOrder}
+use Rattle.document.specs.Date.{isDate}
+use Rattle.document.specs.Moments.{inOrder}
 use Rattle.document.specs.Schema.{sequencesInside}
 use Rattle.document.specs.Visit.{recordsAtMost}
 use Rattle.document.specs.Valid.{isText, isMeal, ifGiven, isUnitFor, validDetail, validFields, valid, detailRecords}

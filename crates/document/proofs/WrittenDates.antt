@@ -67,26 +67,41 @@ small : (m : ℕ) (ms : List ℕ) → Small ms → among m ms ≡ true → m ≤
 small m [] s h = absurd (false≢true h)
 small m (n ∷ ms) s h = or-cases (eqb m n) (among m ms) (m ≤ 12) h (λ e. let f : m ≡ n = eqb-true m n e in let g = s .0 in omega arith) (λ e. small m ms (s .1) e)
 
-month-small : (y m d : ℕ) → leb 1 d ≡ true → leb d (daysIn y m) ≡ true → (m ≤ 12) × (d ≤ 31)
+pub month-days : (y m : ℕ) → daysIn y m ≤ 31
 unfolding daysIn
-month-small y m d p q = go (among m (1 ∷ 3 ∷ 5 ∷ 7 ∷ 8 ∷ 10 ∷ 12 ∷ [])) (among m (4 ∷ 6 ∷ 9 ∷ 11 ∷ [])) (eqb m 2) refl refl refl q
+month-days y m = go (among m (1 ∷ 3 ∷ 5 ∷ 7 ∷ 8 ∷ 10 ∷ 12 ∷ [])) (among m (4 ∷ 6 ∷ 9 ∷ 11 ∷ [])) (eqb m 2) (leap y)
   where
-    feb : (l : Bool) → leb d (cond l 29 28) ≡ true → d ≤ 31
-    feb true h = let g : d ≤ 29 = leb-true d 29 h in omega arith
-    feb false h = let g : d ≤ 28 = leb-true d 28 h in omega arith
+    go : (a b c d : Bool) → cond a 31 (cond b 30 (cond c (cond d 29 28) 0)) ≤ 31
+    go true b c d = omega arith
+    go false true c d = omega arith
+    go false false true true = omega arith
+    go false false true false = omega arith
+    go false false false d = omega arith
 
-    go : (a b c : Bool) → among m (1 ∷ 3 ∷ 5 ∷ 7 ∷ 8 ∷ 10 ∷ 12 ∷ []) ≡ a → among m (4 ∷ 6 ∷ 9 ∷ 11 ∷ []) ≡ b → eqb m 2 ≡ c → leb d (cond a 31 (cond b 30 (cond c (cond (leap y) 29 28) 0))) ≡ true → (m ≤ 12) × (d ≤ 31)
-    go true b c e f g h = (small m (1 ∷ 3 ∷ 5 ∷ 7 ∷ 8 ∷ 10 ∷ 12 ∷ []) (omega arith, (omega arith, (omega arith, (omega arith, (omega arith, (omega arith, (omega arith, tt))))))) e, leb-true d 31 h)
-    go false true c e f g h = let i : d ≤ 30 = leb-true d 30 h in (small m (4 ∷ 6 ∷ 9 ∷ 11 ∷ []) (omega arith, (omega arith, (omega arith, (omega arith, tt)))) f, omega arith)
-    go false false true e f g h = let i : m ≡ 2 = eqb-true m 2 g in (omega arith, feb (leap y) h)
-    go false false false e f g h = let i : d ≤ 0 = leb-true d 0 h in let j : 1 ≤ d = leb-true 1 d p in absurd (omega arith)
+month-small : (y m : ℕ) → 1 ≤ daysIn y m → m ≤ 12
+unfolding daysIn
+month-small y m h = go (among m (1 ∷ 3 ∷ 5 ∷ 7 ∷ 8 ∷ 10 ∷ 12 ∷ [])) (among m (4 ∷ 6 ∷ 9 ∷ 11 ∷ [])) (eqb m 2) refl refl refl h
+  where
+    go : (a b c : Bool) → among m (1 ∷ 3 ∷ 5 ∷ 7 ∷ 8 ∷ 10 ∷ 12 ∷ []) ≡ a → among m (4 ∷ 6 ∷ 9 ∷ 11 ∷ []) ≡ b → eqb m 2 ≡ c → 1 ≤ cond a 31 (cond b 30 (cond c (cond (leap y) 29 28) 0)) → m ≤ 12
+    go true b c e f g h = small m (1 ∷ 3 ∷ 5 ∷ 7 ∷ 8 ∷ 10 ∷ 12 ∷ []) (omega arith, (omega arith, (omega arith, (omega arith, (omega arith, (omega arith, (omega arith, tt))))))) e
+    go false true c e f g h = small m (4 ∷ 6 ∷ 9 ∷ 11 ∷ []) (omega arith, (omega arith, (omega arith, (omega arith, tt)))) f
+    go false false true e f g h = let i : m ≡ 2 = eqb-true m 2 g in omega arith
+    go false false false e f g h = absurd (omega arith)
+
+-- The parts of "real Gregorian days".
+pub day-parts : (d : Day) → isDay d ≡ true → record { first : 1900 ≤ d .year; last : d .year ≤ 2199; from : 1 ≤ d .day; to : d .day ≤ daysIn (d .year) (d .month) }
+unfolding isDay
+day-parts d v =
+    let w = all-four (leb 1900 (d .year)) (leb (d .year) 2199) (leb 1 (d .day)) (leb (d .day) (daysIn (d .year) (d .month))) v in
+    record { first = leb-true _ _ (w .0); last = leb-true _ _ (w .1); from = leb-true _ _ (w .2); to = leb-true _ _ (w .3) }
 
 pub small-day : (d : Day) → isDay d ≡ true → (d .year ≤ 2199) × (d .month ≤ 12) × (d .day ≤ 31)
-unfolding isDay
 small-day d v =
-    let w = all-four (leb 1900 (d .year)) (leb (d .year) 2199) (leb 1 (d .day)) (leb (d .day) (daysIn (d .year) (d .month))) v in
-    let m = month-small (d .year) (d .month) (d .day) (w .2) (w .3) in
-    (leb-true (d .year) 2199 (w .1), m .0, m .1)
+    let w = day-parts d v in
+    let from = w .from in
+    let to = w .to in
+    let days = month-days (d .year) (d .month) in
+    (w .last, month-small (d .year) (d .month) (omega arith), omega arith)
 
 some-minutes : (n : ℕ) → eqb n 0 ≡ false → minutesWest n ≡ west n
 some-minutes n e = ap (λ (b : Bool). cond b (east 0) (west n)) e

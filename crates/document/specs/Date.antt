@@ -143,18 +143,3 @@ bareOr d (b ∷ s) = momentOf d (b ∷ s)
 unfoldable pub dateOf : List ℕ → Option Date
 unfolding isDay
 dateOf s = then (dayOf s) λ d. bareOr (d .value) (d .rest)
-
--- "dtTo may not be before dtFrom; the calendar dates as written are compared"
-abbrev pub written : Date → ℕ
-written (bare d) = (d .year * 100 + d .month) * 100 + d .day
-written (moment d s z) = (d .year * 100 + d .month) * 100 + d .day
-
--- 0 where there is no date.
-abbrev pub writtenIf : Option Date → ℕ
-writtenIf none = 0
-writtenIf (some d) = written d
-
-abbrev pub inOrder : Option Date → Option Date → Bool
-inOrder none to = true
-inOrder (some from) none = true
-inOrder (some from) (some to) = leb (written from) (written to)

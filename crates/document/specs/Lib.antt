@@ -2,6 +2,7 @@ pub mod Bytes
 pub mod Utf8
 pub mod Posology
 pub mod Date
+pub mod Moments
 pub mod Schema
 pub mod Lookup
 pub mod Visit

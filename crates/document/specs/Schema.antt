@@ -8,7 +8,8 @@ use lib.Dec.{eqb, ltb}
 use lib.ListN.{getD}
 use Rattle.document.specs.Bytes.{bytes}
 use Rattle.document.specs.Posology.{Date, bare, Dosage, simple, fromTo, range, AtTime, atTime, InSegment, inSegment, Timed, dosageOnly, times, daySegments, weekDays, daysOfMonth, interval, Detail, daily, freeText, single, cyclic, sequence, SequenceObject, posologySequence, pause, ordered, Posology}
-use Rattle.document.specs.Date.{among, inOrder}
+use Rattle.document.specs.Date.{among}
+use Rattle.document.specs.Moments.{inOrder}
 
 -- Numbers that document 01 names.
 abbrev pub greatestInteger : ℕ

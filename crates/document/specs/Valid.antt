@@ -9,7 +9,8 @@ use lib.Dec.{eqb, leb, ltb}
 use lib.ListN.{length}
 use Rattle.document.specs.Posology.{Dosage, simple, fromTo, range, AtTime, atTime, InSegment, inSegment, Timed, dosageOnly, times, daySegments, weekDays, daysOfMonth, interval, Detail, daily, freeText, single, cyclic, sequence, SequenceObject, posologySequence, pause, SequenceObjects, noObject, objectThen, Posology}
 use Rattle.document.specs.Utf8.{isUtf8}
-use Rattle.document.specs.Date.{among, isDay, isDate, isSecond, inOrder}
+use Rattle.document.specs.Date.{among, isDay, isDate, isSecond}
+use Rattle.document.specs.Moments.{inOrder}
 use Rattle.document.specs.Schema.{greatestInteger, greatestDecimal, mealCodes, sequencesInside, underSingle, underDays, underCyclic}
 use Rattle.document.specs.Visit.{isEmpty, recordsAtMost}
 

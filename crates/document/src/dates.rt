@@ -1,8 +1,6 @@
 // The calendar (document 01, "Dates").
-use crate::table::Date;
 ghost use mathlib.Core.Path.{_≡_};
-ghost use Rattle.document.specs.Date.{leap, daysIn, dayAt, isDay, writtenIf, inOrder};
-ghost use Rattle.document.specs.Untable.{dateOf};
+ghost use Rattle.document.specs.Date.{leap, daysIn, dayAt, isDay};
 
 fn is_leap(year: u64) -> bool
     ensures { λ r. ⌜ r ≡ leap year ⌝ }
@@ -17,7 +15,7 @@ fn is_leap(year: u64) -> bool
 }
 
 // Real Gregorian days: how many a month has, by its number; 0 where there is no such month.
-fn days_in(year: u64, month: u64) -> u64
+pub fn days_in(year: u64, month: u64) -> u64
     ensures { λ r. ⌜ r ≡ daysIn year month ⌝ }
 {
     match month {
@@ -56,32 +54,4 @@ pub fn is_day(year: u64, month: u64, day: u64) -> bool
         return false;
     }
     day <= days_in(year, month)
-}
-
-// A date as a number that grows with the day; 0 where it is absent.
-fn written(d: Date) -> u64
-    ensures { λ r. ⌜ r ≡ writtenIf (dateOf d) ⌝ }
-{
-    match d {
-        Date::Absent => 0,
-        Date::Bare { year, month, day } => (year as u64 * 100 + month as u64) * 100 + day as u64,
-        Date::Moment {
-            year,
-            month,
-            day,
-            second: _,
-            west: _,
-            zone: _,
-        } => (year as u64 * 100 + month as u64) * 100 + day as u64,
-    }
-}
-
-// "dtTo may not be before dtFrom; the calendar dates as written are compared"
-pub fn in_order(from: Date, to: Date) -> bool
-    ensures { λ r. ⌜ r ≡ inOrder (dateOf from) (dateOf to) ⌝ }
-{
-    match to {
-        Date::Absent => true,
-        _ => written(from) <= written(to),
-    }
 }

@@ -8,7 +8,7 @@ use Prim.Native.String.{String}
 use native.Mathlib.Omega.{arith}
 use lib.ListN.{length, drop, getD}
 use Rattle.document.specs.Bytes.{bytes}
-use Rattle.document.specs.Date.{inOrder}
+use Rattle.document.specs.Moments.{inOrder}
 use Rattle.document.specs.Posology as P
 use Rattle.document.specs.Lookup.{Entry, find}
 use Rattle.document.specs.Schema.{aText}

@@ -8,7 +8,7 @@ use lib.Dec.{eqb}
 use lib.ListN.{length, drop, take}
 use Rattle.json.specs.Tree.{Place}
 use Rattle.document.specs.Posology as P
-use Rattle.document.specs.Date.{inOrder}
+use Rattle.document.specs.Moments.{inOrder}
 use Rattle.document.specs.Lookup.{Entry, Found}
 use Rattle.document.specs.Schema.{Rows, need, may, gives-if, unitIf, aText, aNumber, integer, anObject, aDetail, mealCodes, sequencesInside}
 use Rattle.document.specs.Table.{dateCell}

@@ -1,5 +1,5 @@
 // The head of a posology (document 01, "Objects": Posology).
-use document::dates;
+use document::moments;
 use document::table::Date;
 use document::table::MEAL_CODES;
 use document::table::WORDS;
@@ -175,7 +175,7 @@ fn with_strings(
     };
     let from = h.from;
     let to = h.to;
-    if !dates::in_order(from, to) {
+    if !moments::in_order(from, to) {
         return refused(12, at);
     }
     HeadRead {

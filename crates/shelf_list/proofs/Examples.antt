@@ -6,6 +6,7 @@ use mathlib.Core.Option.{none, some}
 use Prim.Native.Nat.{ℕ}
 use lib.ListN.{replicate}
 use Rattle.document.specs.Bytes.{bytes}
+use Rattle.document.specs.Moments.{instant}
 use Rattle.document.specs.Posology.{Posology, freeText}
 use Rattle.document.specs.Plain.{plainThen}
 use Rattle.document.specs.Answer.{read}
@@ -72,3 +73,17 @@ pub told : runOnArea calls (replicate 40 0) ≡ record {
 }
 unfolding onArea onList entriesIn records begins plainOf recordThen read plainThen
 told = refl
+
+-- Document 02, Wish 3: a record whose dtTo is a quarter of an hour before its dtFrom, and the reverse pair.
+abbrev holding : List ℕ → List ℕ
+holding dated = (0x50 ∷ 0x6F ∷ 1 ∷ 2 ∷ 0 ∷ 97 ∷ []) ++ dated
+
+abbrev backward : List ℕ
+backward = bytes "{\"dtFrom\":\"2024-03-05T23:30:00+01:00\",\"dtTo\":\"2024-03-06T00:15:00+02:00\",\"po\":{\"t\":2,\"text\":\"x\"}}"
+
+abbrev forward : List ℕ
+forward = bytes "{\"dtFrom\":\"2024-03-06T00:15:00+02:00\",\"dtTo\":\"2024-03-05T23:30:00+01:00\",\"po\":{\"t\":2,\"text\":\"x\"}}"
+
+pub dates-told : (onArea (at 0) (holding backward) .answer ≡ refused 20 0) × (onArea (at 0) (holding forward) .answer ≡ standing 258)
+unfolding onArea onList entriesIn records begins plainOf recordThen read plainThen instant
+dates-told = (refl, refl)

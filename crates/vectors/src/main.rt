@@ -1,4 +1,4 @@
-// Runs the reader over outside vectors on standard input, a line each: `read` or `run`, the use, the text room, and the bytes in hexadecimal.
+// Runs the reader over outside vectors on standard input, a line each: `read` or `run`, or `reads` or `runs`, the use, the text room, and the bytes in hexadecimal.
 // Answers `refused NUMBER PLACE`, `blank LENGTH`, or `ok`, for a run the end, then the number of records, the plain text and the strings in hexadecimal;
 // and says so where the plain text does not read back to itself. A line `walk` or `walkrun` is of the walk alone: `2 PLACE`, `3 PLACE` or `taken`.
 use cases::Case;
@@ -8,8 +8,10 @@ use document::table::Table;
 use document::table::Writing;
 use walk::End;
 
-// The first words of the lines that are not `read`, packed.
+// The first words of the lines that are not `read` or `reads`, packed.
 const RUN: u64 = 0x72756E;
+
+const RUNS: u64 = 0x72756E73;
 
 const WALK: u64 = 0x77616C6B;
 
@@ -105,7 +107,7 @@ fn answer(c: Case, text: &[u8], strings: &mut [u8]) {
         say_walked(walk::first_object(text));
         return;
     }
-    if c.command == RUN {
+    if c.command == RUN || c.command == RUNS {
         answer_run(text, c.first, strings);
         return;
     }

@@ -1,9 +1,9 @@
--- Two dates in order.
+-- Two dates in order, as written.
 use borrow.Author.Needs.{needs}
 use Rattle.document.specs.Untable.{dateOf}
 use Rattle.document.proofs.Calendar.{order-open, order-given}
-use Rattle.document.proofs.dates.in_order.Statement.{statement}
-use Rattle.document.proofs.dates.in_order.Tie as tie
+use Rattle.document.proofs.moments.in_written_order.Statement.{statement}
+use Rattle.document.proofs.moments.in_written_order.Tie as tie
 
 enum-told : tie.Need-enum-told
 enum-told c = search needs
@@ -22,6 +22,6 @@ returns-2 c =
     let args = c .before .before .before .args in
     rw (c .before .written .ensures, c .written2 .ensures) (order-given (dateOf (args .from)) (args .to) (c .before .before .match .keys2))
 
-pub in-order-spec : {M : Type 1} → statement M
-in-order-spec =
+pub in-written-order-spec : {M : Type 1} → statement M
+in-written-order-spec =
     tie.close (tie.spec enum-told written-requires written-requires-2 returns returns-2)
