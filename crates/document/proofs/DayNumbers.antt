@@ -5,7 +5,7 @@ use Prim.Native.Nat.{ℕ, zero, suc, _+_, _*_, _-_, _/_, _%_, _≤_, _<_}
 use native.Mathlib.Omega.{arith}
 use native.Mathlib.Numerals.{unary-clauses}
 use lib.Dec.{eqb, leb}
-use borrow.Author.Tests.{leb-true, leb-false, eqb-true, eqb-false}
+use borrow.Author.Tests.{leb-false, eqb-true, eqb-false}
 use Rattle.document.specs.Posology.{Day}
 use Rattle.document.specs.Date.{leap, daysIn, dayAt, isDay}
 use Rattle.document.specs.Moments.{daysOfYears, daysOfMonths, dayNumber, tomorrow}

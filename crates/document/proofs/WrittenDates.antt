@@ -89,7 +89,8 @@ month-small y m h = go (among m (1 ∷ 3 ∷ 5 ∷ 7 ∷ 8 ∷ 10 ∷ 12 ∷ [])
     go false false false e f g h = absurd (omega arith)
 
 -- The parts of "real Gregorian days".
-pub day-parts : (d : Day) → isDay d ≡ true → record { first : 1900 ≤ d .year; last : d .year ≤ 2199; from : 1 ≤ d .day; to : d .day ≤ daysIn (d .year) (d .month) }
+pub day-parts : (d : Day) → isDay d ≡ true
+    → record { first : 1900 ≤ d .year; last : d .year ≤ 2199; from : 1 ≤ d .day; to : d .day ≤ daysIn (d .year) (d .month) }
 unfolding isDay
 day-parts d v =
     let w = all-four (leb 1900 (d .year)) (leb (d .year) 2199) (leb 1 (d .day)) (leb (d .day) (daysIn (d .year) (d .month))) v in

@@ -1,6 +1,7 @@
-// Runs the reader over outside vectors on standard input, a line each: `read` or `run`, or `reads` or `runs`, the use, the text room, and the bytes in hexadecimal.
-// Answers `refused NUMBER PLACE`, `blank LENGTH`, or `ok`, for a run the end, then the number of records, the plain text and the strings in hexadecimal;
-// and says so where the plain text does not read back to itself. A line `walk` or `walkrun` is of the walk alone: `2 PLACE`, `3 PLACE` or `taken`.
+// Runs the reader over outside vectors on standard input, a line each: `read` or `run` (also `reads` or `runs`), the use, the text room, and the
+// bytes in hexadecimal. Answers `refused NUMBER PLACE`, `blank LENGTH`, or `ok`, for a run the end, then the number of records, the plain text and the
+// strings in hexadecimal; and says so where the plain text does not read back to itself. A line `walk` or `walkrun` is of the walk alone:
+// `2 PLACE`, `3 PLACE` or `taken`.
 use cases::Case;
 use document::table::Answer;
 use document::table::NextAnswer;
