@@ -4,6 +4,7 @@ use mathlib.Core.List.{List, [], _∷_}
 use mathlib.Core.Bool.{Bool, true, false, cond}
 use mathlib.Core.Option.{none, some}
 use Prim.Native.Nat.{ℕ, suc, _+_, _-_, _≤_, _<_}
+use Prim.Native.String.{String}
 use native.Mathlib.Omega.{arith}
 use lib.Dec.{leb}
 use borrow.Author.Tests.{leb-true, leb-false}
@@ -42,11 +43,18 @@ pub a-minute-east : (d : Day) (s : ℕ) (z : Zone) → isZone z ≡ true → isZ
 unfolding instant
 a-minute-east d s z v w = let h = minute-east z v w in omega arith
 
--- The wish's pair of dates and its reverse; equal moments; one written day; a bare date; a moment of 1899.
+-- The wish's pair of dates, the later moment first, and the reverse pair.
+abbrev pub backward : String
+backward = "{\"dtFrom\":\"2024-03-05T23:30:00+01:00\",\"dtTo\":\"2024-03-06T00:15:00+02:00\",\"po\":{\"t\":2,\"text\":\"x\"}}"
+
+abbrev pub forward : String
+forward = "{\"dtFrom\":\"2024-03-06T00:15:00+02:00\",\"dtTo\":\"2024-03-05T23:30:00+01:00\",\"po\":{\"t\":2,\"text\":\"x\"}}"
+
+-- These two; equal moments; one written day; a bare date; a moment of 1899.
 abbrev pub table : List Row
 table =
-    row "{\"dtFrom\":\"2024-03-05T23:30:00+01:00\",\"dtTo\":\"2024-03-06T00:15:00+02:00\",\"po\":{\"t\":2,\"text\":\"x\"}}" 3 (12 at 0)
-    ∷ row "{\"dtFrom\":\"2024-03-06T00:15:00+02:00\",\"dtTo\":\"2024-03-05T23:30:00+01:00\",\"po\":{\"t\":2,\"text\":\"x\"}}" 3 (records 1)
+    row backward 3 (12 at 0)
+    ∷ row forward 3 (records 1)
     ∷ row "{\"dtFrom\":\"2024-03-05T23:30:00+01:00\",\"dtTo\":\"2024-03-05T22:30:00+00:00\",\"po\":{\"t\":2,\"text\":\"x\"}}" 3 (records 1)
     ∷ row "{\"dtFrom\":\"2024-03-05T12:00:00+00:00\",\"dtTo\":\"2024-03-05T11:00:00+00:00\",\"po\":{\"t\":2,\"text\":\"x\"}}" 3 (12 at 0)
     ∷ row "{\"dtFrom\":\"2024-03-05T23:30:00+01:00\",\"dtTo\":\"2024-03-05\",\"po\":{\"t\":2,\"text\":\"x\"}}" 3 (records 1)
@@ -81,6 +89,6 @@ night = moment (dayAt 2024 3 6) 900 (east 120)
 pub pair-written :
     (write 3 (tableOf (between evening night)) (bytes "x") 2048 ≡ refuses 18 0)
     × (write 3 (tableOf (between night evening)) (bytes "x") 2048
-    ≡ writes (bytes "{\"dtFrom\":\"2024-03-06T00:15:00+02:00\",\"dtTo\":\"2024-03-05T23:30:00+01:00\",\"po\":{\"t\":2,\"text\":\"x\"}}"))
+    ≡ writes (bytes forward))
 unfolding write tableOf instant
 pair-written = (refl, refl)

@@ -49,7 +49,8 @@ unfoldable pub instant : Day → ℕ → Zone → ℕ
 unfolding dayNumber
 instant d s z = dayNumber d * 86400 + s + minutesBehind z * 60
 
--- "When both dtFrom and dtTo carry a time, compare the moments." "With a bare date the old comparison stays."
+-- "dtTo may not be before dtFrom." "When both dtFrom and dtTo carry a time, compare the moments."
+-- "With a bare date the old comparison stays."
 abbrev pub inOrder : Option Date → Option Date → Bool
 inOrder none to = true
 inOrder (some from) none = true

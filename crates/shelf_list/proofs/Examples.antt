@@ -4,12 +4,14 @@ use mathlib.Core.List.{List, [], _∷_, _++_}
 use mathlib.Core.Bool.{false}
 use mathlib.Core.Option.{none, some}
 use Prim.Native.Nat.{ℕ}
+use Prim.Native.String.{String}
 use lib.ListN.{replicate}
 use Rattle.document.specs.Bytes.{bytes}
 use Rattle.document.specs.Moments.{instant}
 use Rattle.document.specs.Posology.{Posology, freeText}
 use Rattle.document.specs.Plain.{plainThen}
 use Rattle.document.specs.Answer.{read}
+use Rattle.document.proofs.Wish3.{backward, forward}
 use Rattle.shelf_list.specs.Shelf.{entry, recordThen, plainOf, begins, records, laidOut, entriesIn}
 use Rattle.shelf_list.specs.Calls.{Call, put, fetch, at, stored, fetched, standing, refused, onList, onArea, runOnArea}
 
@@ -74,15 +76,9 @@ pub told : runOnArea calls (replicate 40 0) ≡ record {
 unfolding onArea onList entriesIn records begins plainOf recordThen read plainThen
 told = refl
 
--- Document 02, Wish 3: a record whose dtTo is a quarter of an hour before its dtFrom, and the reverse pair.
-abbrev holding : List ℕ → List ℕ
-holding dated = (0x50 ∷ 0x6F ∷ 1 ∷ 2 ∷ 0 ∷ 97 ∷ []) ++ dated
-
-abbrev backward : List ℕ
-backward = bytes "{\"dtFrom\":\"2024-03-05T23:30:00+01:00\",\"dtTo\":\"2024-03-06T00:15:00+02:00\",\"po\":{\"t\":2,\"text\":\"x\"}}"
-
-abbrev forward : List ℕ
-forward = bytes "{\"dtFrom\":\"2024-03-06T00:15:00+02:00\",\"dtTo\":\"2024-03-05T23:30:00+01:00\",\"po\":{\"t\":2,\"text\":\"x\"}}"
+-- Document 02, Wish 3: a record with the wish's pair of dates, and one with the reverse pair.
+abbrev holding : String → List ℕ
+holding dated = (0x50 ∷ 0x6F ∷ 1 ∷ 2 ∷ 0 ∷ 97 ∷ []) ++ bytes dated
 
 pub dates-told : (onArea (at 0) (holding backward) .answer ≡ refused 20 0) × (onArea (at 0) (holding forward) .answer ≡ standing 258)
 unfolding onArea onList entriesIn records begins plainOf recordThen read plainThen instant
