@@ -1,8 +1,11 @@
 /* Times posology_read beside programs that do the same job with a JSON library's tree: each object's names looked at (unknown, twice), its type and values
  * checked, a record filled for it, strings copied. What they leave out is to their favour: places of refusals, numbers' exact digits, UTF-8 of the text.
- * Then the worst texts of 32,768 bytes. Built and run by bench/read. */
+ * Then posology_write beside RapidJSON's Writer, which goes through the same records and checks nothing, and the worst texts of 32,768 bytes.
+ * Built and run by bench/read. */
 #include <cjson/cJSON.h>
 #include <rapidjson/document.h>
+#include <rapidjson/stringbuffer.h>
+#include <rapidjson/writer.h>
 #include <simdjson.h>
 
 #include <algorithm>
@@ -298,21 +301,126 @@ static bool by_posology(const std::string &s) {
   return posology_read((const uint8_t *)s.data(), s.size(), 1, strings, sizeof strings, area, sizeof area, &place) == 0;
 }
 
+
+/* A table out of the area, and its text by RapidJSON's Writer. */
+struct Plan {
+  uint64_t head[26], words[64][6];
+};
+static uint64_t eight(size_t i) {
+  uint64_t x = 0;
+  for (int k = 7; k >= 0; k--) x = x << 8 | area[i * 8 + k];
+  return x;
+}
+static Plan plan_of() {
+  Plan p;
+  for (size_t i = 0; i < 26; i++) p.head[i] = eight(i);
+  for (size_t i = 0; i < 384; i++) p.words[i / 6][i % 6] = eight(26 + i);
+  return p;
+}
+using Out = rapidjson::Writer<rapidjson::StringBuffer>;
+static void put_amount(Out &w, const char *name, uint64_t x) {
+  w.Key(name);
+  x % 1000000 ? w.Double(x / 1e6) : w.Uint64(x / 1000000);
+}
+static void put_number(Out &w, const char *name, uint64_t x) { w.Key(name), w.Uint64(x); }
+static void put_two(char *&p, uint64_t x) { *p++ = '0' + x / 10, *p++ = '0' + x % 10; }
+static void put_clock(char *&p, uint64_t s) { put_two(p, s / 3600), *p++ = ':', put_two(p, s / 60 % 60), *p++ = ':', put_two(p, s % 60); }
+static void put_date(Out &w, const char *name, const uint64_t *d) {
+  if (!d[0]) return;
+  char b[40], *p = b;
+  put_two(p, d[1] / 100), put_two(p, d[1] % 100), *p++ = '-', put_two(p, d[2]), *p++ = '-', put_two(p, d[3]);
+  if (d[0] == 2) *p++ = 'T', put_clock(p, d[4]), *p++ = d[5] ? '-' : '+', put_two(p, d[6] / 60), *p++ = ':', put_two(p, d[6] % 60);
+  w.Key(name), w.String(b, p - b);
+}
+static void put_dosage(Out &w, const uint64_t *r) {
+  w.StartObject(), put_number(w, "t", r[0] - 11);
+  if (r[0] == 12) put_amount(w, "a", r[2]);
+  else put_amount(w, r[0] == 13 ? "aFrom" : "aMin", r[2]), put_amount(w, r[0] == 13 ? "aTo" : "aMax", r[3]);
+  if (r[0] == 13) put_number(w, "duU", r[4]), put_number(w, "du", r[5]);
+  w.EndObject();
+}
+static void put_days(Out &w, const char *name, uint64_t set) {
+  w.Key(name), w.StartArray();
+  for (uint64_t d = 1; set; d++, set >>= 1)
+    if (set & 1) w.Uint64(d);
+  w.EndArray();
+}
+static void put_timed(Out &w, const Plan &p, size_t i) {
+  const uint64_t *r = p.words[i];
+  w.StartObject(), put_number(w, "t", r[0] - 5);
+  if (r[0] == 6 || r[0] == 11) w.Key("do"), put_dosage(w, p.words[i + 1]);
+  if (r[0] == 7 || r[0] == 8) {
+    w.Key(r[0] == 7 ? "ts" : "ss"), w.StartArray();
+    for (size_t k = i + 1; k <= i + r[1]; k += 2) {
+      w.StartObject(), w.Key("do"), put_dosage(w, p.words[k + 1]);
+      char b[8], *q = b;
+      if (r[0] == 7) put_clock(q, p.words[k][2]), w.Key("dt"), w.String(b, 8);
+      else put_number(w, "s", p.words[k][2]);
+      w.EndObject();
+    }
+    w.EndArray();
+  }
+  if (r[0] == 9 || r[0] == 10) put_days(w, r[0] == 9 ? "wds" : "doms", r[2]), w.Key("tdo"), put_timed(w, p, i + 1);
+  if (r[0] == 11) put_number(w, "miDu", r[2]), put_number(w, "miDuU", r[3]);
+  w.EndObject();
+}
+static void put_detail(Out &w, const Plan &p, size_t i) {
+  const uint64_t *r = p.words[i];
+  w.StartObject(), put_number(w, "t", r[0]);
+  if (r[0] == 1) {
+    w.Key("ds"), w.StartArray();
+    for (int k = 2; k < 6; k++) r[k] % 1000000 ? w.Double(r[k] / 1e6) : w.Uint64(r[k] / 1000000);
+    w.EndArray();
+  }
+  if (r[0] == 2) w.Key("text"), w.String((const char *)strings + r[2], r[3]);
+  if (r[0] == 3) w.Key("tdo"), put_timed(w, p, i + 1);
+  if (r[0] == 4) {
+    put_number(w, "cyDuU", r[2]), put_number(w, "cyDu", r[3]), w.Key("tdo"), put_timed(w, p, i + 1);
+    if (r[4] != 1) put_number(w, "tdpc", r[4]);
+  }
+  if (r[0] == 5) {
+    w.Key("sos"), w.StartArray();
+    for (size_t k = i + 1; k <= i + r[1]; k += 1 + p.words[k][1]) {
+      w.StartObject(), put_number(w, "t", p.words[k][0] - 14), put_number(w, "du", p.words[k][2]), put_number(w, "duU", p.words[k][3]);
+      if (p.words[k][0] == 15) w.Key("po"), put_detail(w, p, k + 1);
+      w.EndObject();
+    }
+    w.EndArray();
+  }
+  w.EndObject();
+}
+static void by_writer(const Plan &p, rapidjson::StringBuffer &b) {
+  b.Clear();
+  Out w(b);
+  const uint64_t *h = p.head;
+  w.StartObject(), put_date(w, "dtFrom", h), put_date(w, "dtTo", h + 7);
+  if (h[14]) w.Key("inRes"), w.Bool(true);
+  w.Key("po"), put_detail(w, p, 0);
+  if (h[15]) put_number(w, "relMeal", h[15]);
+  const char *const names[] = {"unit", "applInstr", "roa", "moa"};
+  for (int i = 0; i < 4; i++)
+    if (h[17 + 2 * i]) w.Key(names[i]), w.String((const char *)strings + h[16 + 2 * i], h[17 + 2 * i]);
+  w.EndObject();
+}
+static uint8_t written[20736];
+static uint64_t by_posology_write(uint64_t &place) { return posology_write(area, sizeof area, strings, sizeof strings, 1, written, sizeof written, &place); }
+
 static double now() {
   timespec t;
   clock_gettime(CLOCK_MONOTONIC, &t);
   return t.tv_sec * 1e9 + t.tv_nsec;
 }
-template <class F> double best(F f, const std::string &s) {
+template <class F> double least(F f, int n) {
   double b = 1e18;
-  for (int i = 0; i < 30; i++) {
-    int n = s.size() > 4000 ? 5 : 1000;
+  for (int i = 0; i < 41; i++) {
     double a = now();
-    for (int k = 0; k < n; k++) f(s);
+    for (int k = 0; k < n; k++) f();
     b = std::min(b, (now() - a) / n);
-    if (b > 1e7) break;
   }
   return b;
+}
+template <class F> double best(F f, const std::string &s) {
+  return least([&] { f(s); }, s.size() > 20000 ? 3 : s.size() > 1000 ? 50 : 500);
 }
 
 static std::string repeated(std::string head, const char *part, std::string tail) {
@@ -339,26 +447,81 @@ static std::string many_names(const char *form) {
   return s;
 }
 
+/* So many bytes of a string, with an escape or a character outside ASCII every six. */
+static std::string odd_text(size_t n) {
+  static const char *const odd[] = {"\xC3\xA4", "\\n", "\xC3\xB6", "\\\"", "\xC3\xBC", "\\u00e9", "\xE2\x80\x93", "\\\\", "\xC3\xA9", "\\t"};
+  std::string s;
+  for (size_t i = 0, k = 0; s.size() < n; s += odd[k++ % 10])
+    for (int j = 0; j < 5; j++) s += "abcdefghij klmnopqrst uvwxyz"[i++ % 28];
+  return s;
+}
+/* The text with a line for each member and element. */
+static std::string with_blanks(const std::string &s) {
+  std::string o;
+  int deep = 0;
+  for (size_t i = 0; i < s.size(); i++) {
+    char c = s[i];
+    if (c == '"') {
+      size_t e = i + 1;
+      while (s[e] != '"') e += s[e] == '\\' ? 2 : 1;
+      o += s.substr(i, e - i + 1), i = e;
+    } else if (c == '{' || c == '[') o += c, o += '\n', o.append(2 * ++deep, ' ');
+    else if (c == '}' || c == ']') o += '\n', o.append(2 * --deep, ' '), o += c;
+    else if (c == ',') o += ",\n", o.append(2 * deep, ' ');
+    else o += c, o += c == ':' ? " " : "";
+  }
+  return o;
+}
+
 int main() {
-  const std::vector<std::string> plans = {
-      R"({"dtFrom":"2024-05-01","po":{"t":1,"ds":[1,0,0.5,0]},"relMeal":2,"unit":"Tablette","applInstr":"mit Wasser"})",
-      R"({"dtFrom":"2024-05-01","dtTo":"2024-06-01","po":{"t":4,"cyDuU":5,"cyDu":1,"tdo":{"t":4,"wds":[1,3,5],"tdo":{"t":2,"ts":[{"do":{"t":1,"a":1.5},"dt":"08:00:00"}]}}},"relMeal":2,"unit":"Tablette"})",
-      R"({"dtFrom":"2024-05-01","po":{"t":5,"sos":[{"t":1,"du":10,"duU":4,"po":{"t":1,"ds":[1,1,1,0]}},{"t":2,"du":5,"duU":4},{"t":1,"du":10,"duU":4,"po":{"t":3,"tdo":{"t":3,"ss":[{"do":{"t":1,"a":1},"s":1},{"do":{"t":1,"a":2},"s":4}]}}}]},"unit":"Stk","applInstr":"mit Wasser einnehmen"})",
-      R"({"dtFrom":"2024-05-01","po":{"t":3,"tdo":{"t":2,"ts":[{"do":{"t":1,"a":1},"dt":"08:00:00"},{"do":{"t":2,"aFrom":1,"aTo":2.5,"duU":4,"du":3},"dt":"12:00:00"},{"do":{"t":3,"aMin":1,"aMax":3},"dt":"16:30:00"},{"do":{"t":1,"a":0.25},"dt":"20:00:00"}]}},"relMeal":1,"unit":"Stk","applInstr":"vor dem Essen, mit viel Wasser","roa":"PO","moa":"schlucken"})"};
-  std::printf("%-8s %12s %12s %12s %12s\n", "bytes", "posology", "cJSON", "RapidJSON", "simdjson");
+  const std::string times = R"({"t":3,"tdo":{"t":2,"ts":[{"do":{"t":1,"a":1},"dt":"08:00:00"},{"do":{"t":2,"aFrom":1,"aTo":2.5,"duU":4,"du":3},"dt":"12:00:00"},{"do":{"t":3,"aMin":1,"aMax":3},"dt":"16:30:00"},{"do":{"t":1,"a":0.25},"dt":"20:00:00"}]}})";
+  std::string sequence, list;
+  for (int i = 0; i < 4; i++) sequence += (i ? "," : "") + (R"({"t":1,"du":10,"duU":4,"po":)" + times) + R"(},{"t":2,"du":5,"duU":4})";
+  for (int i = 0; i < 31; i++) {
+    char b[100];
+    std::snprintf(b, sizeof b, R"(%s{"do":{"t":2,"aFrom":%d,"aTo":%d.25,"duU":4,"du":30},"dt":"%02d:%02d:00"})", i ? "," : "", i, i + 1, i / 2, i % 2 * 30);
+    list += b;
+  }
+  struct { const char *name; std::string text; } plans[] = {
+      {"Daily", R"({"dtFrom":"2024-05-01","po":{"t":1,"ds":[1,0,0.5,0]},"relMeal":2,"unit":"Tablette","applInstr":"mit Wasser"})"},
+      {"typical", R"({"dtFrom":"2024-05-01","dtTo":"2024-06-01","po":{"t":4,"cyDuU":5,"cyDu":1,"tdo":{"t":4,"wds":[1,3,5],"tdo":{"t":2,"ts":[{"do":{"t":1,"a":1.5},"dt":"08:00:00"}]}}},"relMeal":2,"unit":"Tablette"})"},
+      {"reordered, blanks", with_blanks(R"({"unit":"Tablette","relMeal":2,"po":{"tdo":{"tdo":{"ts":[{"dt":"08:00:00","do":{"a":1.5,"t":1}}],"t":2},"wds":[1,3,5],"t":4},"cyDu":1,"cyDuU":5,"t":4},"dtTo":"2024-06-01","dtFrom":"2024-05-01"})")},
+      {"a sequence", R"({"dtFrom":"2024-05-01","po":{"t":5,"sos":[{"t":1,"du":10,"duU":4,"po":{"t":1,"ds":[1,1,1,0]}},{"t":2,"du":5,"duU":4},{"t":1,"du":10,"duU":4,"po":{"t":3,"tdo":{"t":3,"ss":[{"do":{"t":1,"a":1},"s":1},{"do":{"t":1,"a":2},"s":4}]}}}]},"unit":"Stk","applInstr":"mit Wasser einnehmen"})"},
+      {"four times", R"({"dtFrom":"2024-05-01","po":)" + times + R"(,"relMeal":1,"unit":"Stk","applInstr":"vor dem Essen, mit viel Wasser","roa":"PO","moa":"schlucken"})"},
+      {"1-3 KB", R"({"dtFrom":"2024-05-01","po":{"t":5,"sos":[)" + sequence + R"(]},"relMeal":1,"unit":"Stk","applInstr":"vor dem Essen, mit viel Wasser einnehmen und danach eine halbe Stunde nicht hinlegen","roa":"PO","moa":"schlucken"})"},
+      {"64 records", R"({"dtFrom":"2024-05-01","po":{"t":3,"tdo":{"t":2,"ts":[)" + list + R"(]}},"relMeal":1,"unit":"Stk","applInstr":"vor dem Essen"})"},
+      {"64 records, blanks", with_blanks(R"({"dtFrom":"2024-05-01","po":{"t":3,"tdo":{"t":2,"ts":[)" + list + R"(]}},"relMeal":1,"unit":"Stk","applInstr":"vor dem Essen"})")},
+      {"text heavy", R"({"po":{"t":2,"text":")" + odd_text(900) + R"("},"unit":"Stk","applInstr":")" + odd_text(900) + R"(","roa":")" + odd_text(150) + R"(","moa":")" + odd_text(150) + R"("})"}};
+  std::printf("%-20s %6s %12s %12s %12s %12s\n", "reading, ns", "bytes", "posology", "cJSON", "RapidJSON", "simdjson");
   for (auto &p : plans) {
-    if (!by_posology(p) || !by_cjson(p) || !by_rapidjson(p) || !by_simdjson(p)) return std::puts("a plan was refused"), 1;
-    std::printf("%-8zu %9.0f ns %9.0f ns %9.0f ns %9.0f ns\n", p.size(), best(by_posology, p), best(by_cjson, p), best(by_rapidjson, p), best(by_simdjson, p));
+    if (!by_posology(p.text) || !by_cjson(p.text) || !by_rapidjson(p.text) || !by_simdjson(p.text)) return std::printf("%s was refused\n", p.name), 1;
+    std::printf("%-20s %6zu %12.0f %12.0f %12.0f %12.0f\n", p.name, p.text.size(), best(by_posology, p.text), best(by_cjson, p.text), best(by_rapidjson, p.text), best(by_simdjson, p.text));
+  }
+  std::printf("\n%-20s %6s %12s %12s\n", "writing, ns", "bytes", "posology", "RapidJSON");
+  for (auto &p : plans) {
+    uint64_t place;
+    if (!by_posology(p.text) || by_posology_write(place)) return std::printf("%s was not written\n", p.name), 1;
+    Plan q = plan_of();
+    rapidjson::StringBuffer b;
+    by_writer(q, b);
+    std::printf("%-20s %6d %12.0f %12.0f\n", p.name, (int)place, least([&] { by_posology_write(place); }, 300), least([&] { by_writer(q, b); }, 300));
   }
   const std::string deep = R"({"unit":"a","po":{"t":5,"sos":[{"t":1,"du":1,"duU":1,"po":{"t":5,"sos":[{"t":1,"du":1,"duU":1,"po":{"t":5,"sos":[{"t":1,"du":1,"duU":1,"po":{"t":4,"cyDuU":6,"cyDu":1,"tdo":{"t":5,"doms":[)", deep_end = R"(],"tdo":{"t":2,"ts":[]}}}}]}}]}}]}})";
   struct { const char *name; std::string text; } worst[] = {
       {"thousands of unknown names", many_names("\"%c%c%c\":1,")},
       {"long names, a common prefix", many_names("\"aaaaaaaaaaaaaaaaaaaaaaaa%c%c%c\":1,")},
+      {"escaped names", many_names("\"\\u0061%c%c%c\":1,")},
+      {"names outside ASCII", many_names("\"\xC3\xA4%c%c%c\":1,")},
+      {"one name of escapes", repeated("{\"", "\\u0061", "\":1}")},
+      {"one name outside ASCII", repeated("{\"", "\xC3\xA4", "\":1}")},
       {"blanks only", std::string(32768, ' ')},
       {"escapes only", repeated(R"({"po":{"t":2,"text":")", "\\u0041", R"("},"unit":"a"})")},
+      {"outside ASCII only", repeated(R"({"po":{"t":2,"text":")", "\xC3\xA4", R"("},"unit":"a"})")},
       {"a long list", repeated(R"({"po":{"t":1,"ds":[)", "1,", R"(]},"unit":"a"})")},
       {"deep, and a long list", repeated(deep, "1,", deep_end)},
       {"deep, and a mixed list", mixed(deep, deep_end)},
+      {"deep, and blanks", repeated(deep, " ", "1" + deep_end)},
       {"long strings", repeated(R"({"po":{"t":2,"text":")", "abcdefgh", R"("},"unit":"a"})")}};
-  for (auto &w : worst) std::printf("%-30s %8zu bytes %10.1f us\n", w.name, w.text.size(), best(by_posology, w.text) / 1000);
+  std::printf("\n%-30s %6s %12s\n", "the worst texts, us", "bytes", "posology");
+  for (auto &w : worst) std::printf("%-30s %6zu %12.1f\n", w.name, w.text.size(), best(by_posology, w.text) / 1000);
 }

@@ -18,7 +18,7 @@ date-front D.Absent k r = refl
 date-front (D.Bare y m d) k r = refl
 date-front (D.Moment y m d s west z) k r = refl
 
-head-front : (h : Head) (k r : List ℕ) → headWords h k ++ r ≡ headWords h (k ++ r)
+pub head-front : (h : Head) (k r : List ℕ) → headWords h k ++ r ≡ headWords h (k ++ r)
 head-front h k r = date-front (h .from) _ r ∙ ap (dateWords (h .from)) (date-front (h .to) _ r)
 
 pub date-length : (d : Date) (k : List ℕ) → length (dateWords d k) ≡ length k + 7
@@ -26,7 +26,7 @@ date-length D.Absent k = omega arith
 date-length (D.Bare y m d) k = omega arith
 date-length (D.Moment y m d s west z) k = omega arith
 
-head-length : (h : Head) (m n : ℕ) → length (headWords h (m ∷ n ∷ [])) ≡ 26
+pub head-length : (h : Head) (m n : ℕ) → length (headWords h (m ∷ n ∷ [])) ≡ 26
 head-length h m n = date-length (h .from) _ ∙ ap (λ (i : ℕ). i + 7) (date-length (h .to) _)
 
 pub laid-out : (h : Head) (m n : ℕ) (ws a b c hs : List ℕ) → length a ≡ 3280 → length ws ≡ 384 → hs ≡ headWords h (m ∷ n ∷ []) → (0 + length hs * 8 ≤ length a → b ≡ sets a 0 (allBytes hs)) → (208 + length ws * 8 ≤ length b → c ≡ sets b 208 (allBytes ws)) → c ≡ allBytes (headWords h (m ∷ n ∷ ws))

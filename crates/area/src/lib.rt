@@ -78,7 +78,7 @@ fn date_numbers(d: Date) -> Seven
     }
 }
 
-fn head_numbers(h: Head, count: usize, text: usize) -> [u64; 26]
+pub fn head_numbers(h: Head, count: usize, text: usize) -> [u64; 26]
     ensures { λ r. ⌜ r ≡ headWords h (count ∷ text ∷ []) ⌝ }
 {
     let from = h.from;

@@ -1,5 +1,5 @@
 -- A decoded string is no longer than its text: an escape has more bytes than what it stands for.
-use Prim.Native.Nat.{ℕ, _+_, _≤_}
+use Prim.Native.Nat.{ℕ, _+_, _<_, _≤_}
 use mathlib.Core.Path.{_≡_, refl}
 use mathlib.Core.List.{List, [], _∷_, tail}
 use mathlib.Core.Bool.{Bool, true, false, cond}
@@ -84,16 +84,16 @@ unit-d-keeps : (t h : Bool) → keptAt (cond t (Goes Digit2) (goIf h High2)) ≤
 unit-d-keeps true h = omega arith
 unit-d-keeps false h = omega (arith, if-keeps h High2)
 
-four-at-most : (a b c : Bool) (p q r s t u v w x y : ℕ)
-    → length (cond a (p ∷ []) (cond b (q ∷ r ∷ []) (cond c (s ∷ t ∷ u ∷ []) (v ∷ w ∷ x ∷ y ∷ [])))) ≤ 4
-four-at-most true b c p q r s t u v w x y = omega arith
-four-at-most false true c p q r s t u v w x y = omega arith
-four-at-most false false true p q r s t u v w x y = omega arith
-four-at-most false false false p q r s t u v w x y = omega arith
+one-to-four : (a b c : Bool) (p q r s t u v w x y : ℕ)
+    → let n = length (cond a (p ∷ []) (cond b (q ∷ r ∷ []) (cond c (s ∷ t ∷ u ∷ []) (v ∷ w ∷ x ∷ y ∷ [])))) in (0 < n) × (n ≤ 4)
+one-to-four true b c p q r s t u v w x y = (omega arith, omega arith)
+one-to-four false true c p q r s t u v w x y = (omega arith, omega arith)
+one-to-four false false true p q r s t u v w x y = (omega arith, omega arith)
+one-to-four false false false p q r s t u v w x y = (omega arith, omega arith)
 
-utf8-short : (c : ℕ) → length (utf8 c) ≤ 4
+pub utf8-size : (c : ℕ) → (0 < length (utf8 c)) × (length (utf8 c) ≤ 4)
 unfolding utf8 look
-utf8-short c = four-at-most (ltb c 0x80) (ltb c 0x800) (ltb c 0x10000) _ _ _ _ _ _ _ _ _ _
+utf8-size c = one-to-four (ltb c 0x80) (ltb c 0x800) (ltb c 0x10000) _ _ _ _ _ _ _ _ _ _
 
 -- what a byte gives and what its state keeps for it
 step-keeps : (s : InString) (v b : ℕ) → length (given s v b) + keptAt (after s b) ≤ 1 + kept s
@@ -104,7 +104,7 @@ step-keeps Unit v b = omega (arith, unit-keeps (isD b) (isHex b))
 step-keeps UnitD v b = omega (arith, unit-d-keeps (isTo7 b) (is8ToB b))
 step-keeps Digit3 v b = omega (arith, if-keeps (isHex b) Digit2)
 step-keeps Digit2 v b = omega (arith, if-keeps (isHex b) Digit1)
-step-keeps Digit1 v b = omega (arith, if-keeps (isHex b) Plain, utf8-short (point (oneMore v b)))
+step-keeps Digit1 v b = omega (arith, if-keeps (isHex b) Plain, utf8-size (point (oneMore v b)))
 step-keeps High2 v b = omega (arith, if-keeps (isHex b) High1)
 step-keeps High1 v b = omega (arith, if-keeps (isHex b) Slash)
 step-keeps Slash v b = omega (arith, if-keeps (eqb b 92) LetterU)

@@ -2,3 +2,4 @@
 pub mod Ahead
 pub mod Lengths
 pub mod Ascii
+pub mod Runs

@@ -1,9 +1,10 @@
 -- Strings of a walked text by their decoded bytes (`decoded` of Read.antt), given out as the escapes are undone.
-use Prim.Native.Nat.{ℕ, _≤_}
+use Prim.Native.Nat.{ℕ, _-_, _≤_}
 use mathlib.Core.Path.{_≡_}
 use mathlib.Core.List.{List, [], _∷_, _++_}
 use mathlib.Core.Bool.{cond}
 use lib.ListN.{length, drop, take}
+use lib.Seq.{slice}
 use Rattle.json.specs.String.{chars}
 use Rattle.json.specs.declared.string.InString.{InString}
 use Rattle.json.specs.declared.string.InString.the-variants.{Plain}
@@ -31,6 +32,19 @@ pub record Steps (s : InString) (v b : ℕ) (r : Stepped) : Type 0 where
 unfoldable pub left : List ℕ → Spot → List ℕ
 unfolding chars
 left text s = (chars (s .state) (s .v) (drop (s .at) text)) .bytes
+
+-- A spot where a character or the closing quote may stand.
+abbrev pub spotAt : ℕ → Spot
+spotAt at = record { at = at; state = Plain; v = 0 }
+
+abbrev pub behindRun : Spot → ℕ → Spot
+behindRun s at = record { at = at; state = s .state; v = s .v }
+
+-- From a spot up to r the string's bytes are those of the text: the rest is to be decoded from there.
+pub record Run (text : List ℕ) (s : Spot) (r : ℕ) : Type 0 where
+  pub ahead : s .at ≤ r
+  pub inside : r - s .at ≤ length text - s .at
+  pub bytes : left text s ≡ slice (s .at) r text ++ left text (behindRun s r)
 
 pub record GivesBytes (text : List ℕ) (s : Spot) (r : NextBytes) : Type 0 where
   pub bytes : left text s ≡ bytesOf (r .out) ++ left text (r .spot)

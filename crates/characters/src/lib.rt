@@ -3,6 +3,8 @@ use json::string::CharStep;
 use json::string::InString;
 use json::string::Letter;
 use scan::byte;
+use scan::escape;
+use scan::escape::Escape;
 use scan::string;
 ghost use mathlib.Core.Path.{_≡_};
 ghost use mathlib.Core.List.{List, [], _∷_};
@@ -12,7 +14,8 @@ ghost use lib.ListN.{length, drop};
 ghost use Rattle.json.specs.Byte.{utf8};
 ghost use Rattle.json.specs.String.{oneMore, gather, point, meant, given as givenBy};
 ghost use Rattle.moving.specs.Read.{decoded};
-ghost use Rattle.characters.specs.Characters.{bytesOf, plainFrom, left, ahead, Steps, GivesBytes, Sound, Gives};
+ghost use Rattle.characters.specs.Characters.{bytesOf, plainFrom, left, ahead, spotAt, behindRun};
+ghost use Rattle.characters.specs.Characters.{Steps, Run, GivesBytes, Sound, Gives};
 
 // Up to four bytes: the first n of the array.
 pub struct Out {
@@ -99,7 +102,7 @@ fn one_byte(b: u8) -> Out
 }
 
 // The bytes of a code point.
-fn utf8_of(c: u64) -> Out
+pub fn utf8_of(c: u64) -> Out
     ensures { λ r. ⌜ (bytesOf r ≡ utf8 c) × (r .n ≤ length (r .bytes)) ⌝ }
 {
     if c < 0x80 {
@@ -133,8 +136,24 @@ fn utf8_of(c: u64) -> Out
     }
 }
 
+// How many they are.
+pub fn utf8_length(c: u64) -> usize
+    ensures { λ r. ⌜ r ≡ length (utf8 c) ⌝ }
+{
+    if c < 0x80 {
+        return 1;
+    }
+    if c < 0x800 {
+        return 2;
+    }
+    if c < 0x10000 {
+        return 3;
+    }
+    4
+}
+
 // The code point of the digits gathered, four of one or eight of a pair.
-fn point_of(v: u64) -> u64
+pub fn point_of(v: u64) -> u64
     ensures { λ r. ⌜ r ≡ point v ⌝ }
 {
     if v < 0x10000 {
@@ -236,8 +255,50 @@ fn over(s: Spot) -> NextBytes
     }
 }
 
-// The next decoded bytes of a string, none where it ends.
-pub fn next_bytes(text: &[u8], s: Spot) -> NextBytes
+// The first place from `at` on where no character stands that is spelled as it is.
+pub fn plain_end(text: &[u8], at: usize) -> usize
+    ensures { λ r. ⌜ Run (now (text .entry)) (spotAt at) r ⌝ }
+{
+    let mut i = at;
+    while i < text.len() {
+        if string::is_ascii(text[i]) {
+            i += 1;
+        } else {
+            let n = string::wide_char(text, i);
+            if n == 0 {
+                return i;
+            }
+            i += n;
+        }
+    }
+    i
+}
+
+// The place up to which the decoded bytes from a spot on are those of the text.
+pub fn run_end(text: &[u8], s: Spot) -> usize
+    ensures { λ r. ⌜ Run (now (text .entry)) s r ⌝ }
+{
+    let state = s.state;
+    match state {
+        InString::Plain => plain_end(text, s.at),
+        _ => s.at,
+    }
+}
+
+// The spot behind a run.
+pub fn behind_run(s: Spot, at: usize) -> Spot
+    ensures { λ r. ⌜ r ≡ behindRun s at ⌝ }
+{
+    let state = s.state;
+    Spot {
+        at: at,
+        state: state,
+        v: s.v,
+    }
+}
+
+// The next decoded bytes of a string, byte by byte.
+fn stepped_bytes(text: &[u8], s: Spot) -> NextBytes
     ensures { λ r. ⌜ GivesBytes (now (text .entry)) s r ⌝ }
 {
     let mut at = s.at;
@@ -264,6 +325,35 @@ pub fn next_bytes(text: &[u8], s: Spot) -> NextBytes
         }
     }
     over(s)
+}
+
+// Those of the escape where a whole one stands.
+fn escaped_bytes(text: &[u8], s: Spot) -> NextBytes
+    requires { ⌜ s .state ≡ InString.Plain ⌝ }
+    ensures { λ r. ⌜ GivesBytes (now (text .entry)) s r ⌝ }
+{
+    match escape::escape_at(text, s.at) {
+        Escape::Letter(m) => NextBytes {
+            out: one_byte(m),
+            spot: spot_at(s.at + 2),
+        },
+        Escape::Digits(v, n) => NextBytes {
+            out: utf8_of(point_of(v)),
+            spot: spot_at(s.at + n),
+        },
+        Escape::None => stepped_bytes(text, s),
+    }
+}
+
+// The next decoded bytes of a string, none where it ends.
+pub fn next_bytes(text: &[u8], s: Spot) -> NextBytes
+    ensures { λ r. ⌜ GivesBytes (now (text .entry)) s r ⌝ }
+{
+    let state = s.state;
+    match state {
+        InString::Plain => escaped_bytes(text, s),
+        _ => stepped_bytes(text, s),
+    }
 }
 
 // The place behind the opening quote at `quote`.

@@ -1,7 +1,7 @@
 -- The words of records, used and unused, as one list.
 use mathlib.Core.Path.{_≡_, refl, ap, sym, _∙_}
 use mathlib.Core.List.{List, [], _∷_, _++_}
-use mathlib.Core.Bool.{Bool, true, false}
+use mathlib.Core.Bool.{Bool, true, false, _&&_}
 use Prim.Native.Nat.{ℕ, zero, suc, _+_, _*_, _-_, _≤_, _<_}
 use native.Mathlib.Omega.{arith}
 use lib.ListN.{length, drop, getD, replicate, drop-of-length-le}
@@ -9,8 +9,11 @@ use lib.Seq.{drop-cons, getD-append-add}
 use Rattle.document.specs.Table.{noRecord}
 use Rattle.document.specs.Words.{Words, allWords, rows}
 use Rattle.document.specs.declared.table.Record.{Record}
-use lib.Dec.{ltb}
-use borrow.Author.Tests.{ltb-true, ltb-false}
+use lib.Dec.{eqb}
+use borrow.Author.Count.{below-more}
+use borrow.Author.Tests.{eqb-true, eqb-false}
+use Rattle.doses.specs.Doses.{Decides}
+use Rattle.doses.proofs.Decided.{yes-of, no-of}
 use Rattle.words.specs.Standing.{Lies}
 use Rattle.words.proofs.Rowed.{rows-append, rows-length}
 use Rattle.checking.specs.Checks.{Zeros}
@@ -66,9 +69,18 @@ lies-rows ws (w ∷ l) i n (p, q) =
     (one-word ws (i * 6 + 4) (i * 6 + 5) (w .c) _ (omega arith) (omega arith) (p .c)
     (one-word ws (i * 6 + 5) ((i + 1) * 6) (w .d) _ (omega arith) (omega arith) (p .d) (lies-rows ws l (i + 1) (omega arith) q))))))
 
-pub zero-next : (ws : List ℕ) (j at : ℕ) → (j < at → getD ws j 0 ≡ 0) → getD ws at 0 ≡ 0 → j < at + 1 → getD ws j 0 ≡ 0
-zero-next ws j at f e h = go (ltb j at) refl
+-- The words from k on, up to a place, are zero.
+abbrev pub ZerosTo : List ℕ → ℕ → ℕ → Type 0
+ZerosTo ws k at = (j : ℕ) → k ≤ j → j < at → getD ws j 0 ≡ 0
+
+-- Both ways, for the answer so far is not left where a word is not zero.
+pub one-more : (ws : List ℕ) (k at : ℕ) (b : Bool) → k ≤ at → Decides (ZerosTo ws k at) b
+    → Decides (ZerosTo ws k (at + 1)) (b && eqb (getD ws at 0) 0)
+one-more ws k at false h d = no-of (λ z. d .no refl (λ j g l. z j g (omega arith)))
+one-more ws k at true h d = go (eqb (getD ws at 0) 0) refl
   where
-    go : (b : Bool) → ltb j at ≡ b → getD ws j 0 ≡ 0
-    go true g = f (ltb-true j at g)
-    go false g = let k : j ≡ at = omega (arith, ltb-false j at g) in ap (λ n. getD ws n 0) k ∙ e
+    go : (b : Bool) → eqb (getD ws at 0) 0 ≡ b → Decides (ZerosTo ws k (at + 1)) b
+    go true e =
+        let here = eqb-true (getD ws at 0) 0 e in
+        yes-of (λ j g l. below-more (λ n. k ≤ n → getD ws n 0 ≡ 0) at (λ n m f. d .yes refl n f m) (λ f. here) j l g)
+    go false e = no-of (λ z. eqb-false (getD ws at 0) 0 e (z at h (omega arith)))

@@ -1,20 +1,18 @@
 -- What is checked of a table is what makes it readable.
 use mathlib.Core.Path.{_≡_, ap, sym, subst, _∙_}
-use mathlib.Core.List.{List, [], _∷_, _++_}
+use mathlib.Core.List.{List, [], _++_}
 use mathlib.Core.Bool.{true}
 use Prim.Native.Nat.{ℕ, _+_, _*_, _-_, _≤_}
 use native.Mathlib.Omega.{arith}
-use lib.ListN.{length, drop, replicate, length-replicate}
+use lib.ListN.{length, drop, replicate, length-append, length-replicate}
 use Rattle.document.specs.Posology.{Posology}
-use Rattle.document.specs.Valid.{valid, detailRecords, detailStrings, strings}
+use Rattle.document.specs.Valid.{detailRecords, detailStrings, strings}
 use Rattle.document.specs.Table.{noRecord, lengthOf, detailRows, headOf, tableOf}
-use Rattle.document.specs.Words.{allWords, rows, headWords, tableWords}
+use Rattle.document.specs.Words.{allWords, rows}
 use Rattle.document.specs.Untable.{dateOf, mealOf}
 use Rattle.document.specs.Write.{readable}
-use Rattle.document.specs.declared.table.Record.{Record}
 use Rattle.document.specs.declared.table.Head.{Head}
 use Rattle.document.specs.declared.table.Table.{Table}
-use Rattle.document.proofs.WordsBack.{words-one}
 use Rattle.document.proofs.Untables.{detail-append}
 use Rattle.document.proofs.Parts.{unit-text}
 use Rattle.document.proofs.ValidParts.{ValidParts, valid-parts, parts-valid}
@@ -30,7 +28,7 @@ use Rattle.checking.proofs.Stands.{records-of, readable-stands}
 use Rattle.checking.proofs.Pieces.{PieceIs, piece-is, piece-found, piece-behind, unit-for}
 use Rattle.checking.proofs.HeadValues.{cell-date, cell-meal, valid-meal, same-head, head-right}
 use Rattle.checking.specs.Checks.{Zeros}
-use Rattle.checking.specs.Readable.{PiecesAt, HeadRight, LaidAt}
+use Rattle.checking.specs.Readable.{PiecesAt, HeadRight, LaidAt, ReadableWords}
 
 -- A value's table and strings are laid as the checks want them.
 module _ (purpose : ℕ) (p : Posology) (n : ValidParts purpose p) (buffer behind : List ℕ) where
@@ -68,8 +66,11 @@ module _ (purpose : ℕ) (p : Posology) (n : ValidParts purpose p) (buffer behin
       let f = detail-found (p .po) 3 0 0 [] rest (n .detail) (omega arith) l (e ∙ strings-append p behind ∙ sym (detail-append (p .po) rest)) (omega arith) in
       let s = f .sum [] in
       let c = f .count in
-      let same : length rs * 6 ≡ detailRecords (p .po) * 6 = let k = detail-length (p .po) 0 [] in omega arith in
+      let k = detail-length (p .po) 0 [] in
+      let same : length rs * 6 ≡ detailRecords (p .po) * 6 = omega arith in
+      let filled = simp (length-append, length-replicate) at (ap length (records-of p few)) in
       record {
+        all = omega (arith, rows-length (tableOf p .records));
         room = room;
         fits = few;
         counted = omega arith;
@@ -79,17 +80,23 @@ module _ (purpose : ℕ) (p : Posology) (n : ValidParts purpose p) (buffer behin
         zeros = subst (Zeros ws) same (subst (λ x. Zeros (rows (allWords x)) (length rs * 6)) (sym (records-of p few)) (unused-zero rs (64 - length rs)));
       }
 
-pub readable-laid : (purpose : ℕ) (t : Table) (ws buffer : List ℕ) → ws ≡ rows (allWords (t .records)) → length (t .records) ≡ 64 → readable purpose t buffer ≡ true → HeadRight (t .head) purpose × LaidAt ws buffer (t .head) (t .count) (t .text)
+pub readable-laid : (purpose : ℕ) (t : Table) (buffer : List ℕ) → length (t .records) ≡ 64 → readable purpose t buffer ≡ true
+    → HeadRight (t .head) purpose × LaidAt (rows (allWords (t .records))) buffer (t .head) (t .count) (t .text)
 unfolding tableOf
-readable-laid purpose t ws buffer e n r =
+readable-laid purpose t buffer n r =
     let s = readable-stands purpose t buffer n r in
     let p = s .is in
     let parts = valid-parts purpose p (s .valid) in
     let rs = detailRows (p .po) 0 [] in
     let lies : Lies (rows (allWords (tableOf p .records))) 0 (allWords rs) = subst (λ u. Lies (rows (allWords (u .records))) 0 (allWords rs)) (s .table) (s .lies) in
-    subst (λ x. HeadRight (t .head) purpose × LaidAt x buffer (t .head) (t .count) (t .text)) (sym e)
-    (subst (λ u. HeadRight (u .head) purpose × LaidAt (rows (allWords (u .records))) buffer (u .head) (u .count) (u .text)) (sym (s .table))
-    (head-right purpose p parts, laid-of purpose p parts buffer (s .behind) (s .fits) (s .few) (s .strings-first) lies))
+    subst (λ u. HeadRight (u .head) purpose × LaidAt (rows (allWords (u .records))) buffer (u .head) (u .count) (u .text)) (sym (s .table))
+    (head-right purpose p parts, laid-of purpose p parts buffer (s .behind) (s .fits) (s .few) (s .strings-first) lies)
+
+pub words-laid : {purpose count text : ℕ} {h : Head} {ws buffer : List ℕ} → ReadableWords purpose h count text ws buffer
+    → HeadRight h purpose × LaidAt ws buffer h count text
+words-laid {purpose} {buffer = buffer} r =
+    let b = r .by in
+    rw (b .head, b .count, b .text, b .words) at (readable-laid purpose (r .table) buffer (b .all) (r .readable))
 
 -- What is laid so is a value's table, with its strings.
 module _ (ws buffer : List ℕ) (h : Head) (taken u₁ u₂ u₃ text : ℕ) (d : DetailIs ws buffer 3 0 0 taken) (a : PieceIs buffer (h .unit) taken u₁) (b : PieceIs buffer (h .instructions) u₁ u₂) (c : PieceIs buffer (h .roa) u₂ u₃) (m : PieceIs buffer (h .moa) u₃ text) where
@@ -142,28 +149,26 @@ module _ (ws buffer : List ℕ) (h : Head) (taken u₁ u₂ u₃ text : ℕ) (d 
       lies-rows ws (allWords rs) 0 (omega arith) (d .lies k (zeros-lie ws count size (0 + count) n z (omega arith) (omega arith)))
       ∙ ap (λ x. rows (allWords x)) (detail-rows (d .value) 0 k ∙ sym (records-of value few))
 
-  value-table : (count : ℕ) (rs : List Record) → detailRecords (d .value) ≡ count → rows (allWords (tableOf value .records)) ≡ rows (allWords rs) → _≡_ {A = Table} (tableOf value) (record { head = h; count = count; text = text; records = rs })
-  unfolding tableOf tableWords
-  value-table count rs e f =
-      let own = rows (allWords (tableOf value .records)) in
-      words-one (tableOf value) (record { head = h; count = count; text = text; records = rs })
-      (ap (λ x. headWords x (detailRecords (d .value) ∷ length (strings value) ∷ own)) value-head
-      ∙ ap (λ x. headWords h (x ∷ length (strings value) ∷ own)) e
-      ∙ ap (λ x. headWords h (count ∷ x ∷ own)) value-text
-      ∙ ap (λ x. headWords h (count ∷ text ∷ x)) f)
-
-  value-readable : (purpose count : ℕ) (rs : List Record) → ws ≡ rows (allWords rs) → length rs ≡ 64 → HeadRight h purpose → detailRecords (d .value) ≡ count → count ≤ 64 → text ≤ 2048 → Zeros ws (count * 6) → readable purpose (record { head = h; count = count; text = text; records = rs }) buffer ≡ true
-  value-readable purpose count rs e n r f most room z =
+  value-words : (purpose count : ℕ) → HeadRight h purpose → detailRecords (d .value) ≡ count → count ≤ 64 → text ≤ 2048 → length ws ≡ 384
+      → Zeros ws (count * 6) → ReadableWords purpose h count text ws buffer
+  unfolding tableOf
+  value-words purpose count r f most room n z =
       let few : detailRecords (d .value) ≤ 64 = omega arith in
-      let size : length ws ≡ 384 = ap length e ∙ rows-length rs ∙ ap (λ x. x * 6) n in
-      let same = sym (value-rows few size (subst (λ x. Zeros ws (x * 6)) (sym f) z)) ∙ e in
-      subst (λ x. readable purpose (record { head = h; count = count; text = text; records = rs }) x ≡ true) (sym value-strings)
-      (subst (λ x. readable purpose x (strings value ++ drop text buffer) ≡ true) (value-table count rs f same)
-      (own-readable purpose value (drop text buffer) (parts-valid purpose value (value-parts purpose r) few) (omega (arith, value-text))))
+      let same = value-rows few n (subst (λ x. Zeros ws (x * 6)) (sym f) z) in
+      let all : length (tableOf value .records) ≡ 64 = omega (arith, rows-length (tableOf value .records), ap length same) in
+      let valid = parts-valid purpose value (value-parts purpose r) few in
+      let own = own-readable purpose value (drop text buffer) valid (omega (arith, value-text)) in
+      record {
+        table = tableOf value;
+        by = record { head = value-head; count = f; text = value-text; words = sym same; all = all };
+        readable = subst (λ x. readable purpose (tableOf value) x ≡ true) (sym value-strings) own;
+      }
 
-pub laid-readable : (purpose : ℕ) (t : Table) (ws buffer : List ℕ) → ws ≡ rows (allWords (t .records)) → length (t .records) ≡ 64 → HeadRight (t .head) purpose → LaidAt ws buffer (t .head) (t .count) (t .text) → readable purpose t buffer ≡ true
-laid-readable purpose t ws buffer e n r l =
+pub laid-words : {purpose count text : ℕ} {h : Head} {ws buffer : List ℕ} → HeadRight h purpose → LaidAt ws buffer h count text
+    → ReadableWords purpose h count text ws buffer
+laid-words {purpose} {count} {text} {h} {ws} {buffer} r l =
     let q = l .pieces in
     let d = detail-is (l .detail) in
-    value-readable ws buffer (t .head) (l .taken) (q .u₁) (q .u₂) (q .u₃) (t .text) d (piece-is (q .unit)) (piece-is (q .instructions)) (piece-is (q .roa)) (piece-is (q .moa))
-    purpose (t .count) (t .records) e n r (omega (arith, l .counted, d .count)) (l .fits) (l .room) (l .zeros)
+    value-words ws buffer h (l .taken) (q .u₁) (q .u₂) (q .u₃) text d
+    (piece-is (q .unit)) (piece-is (q .instructions)) (piece-is (q .roa)) (piece-is (q .moa))
+    purpose count r (omega (arith, l .counted, d .count)) (l .fits) (l .room) (l .all) (l .zeros)

@@ -70,9 +70,32 @@ not-wrong t ws e = unless-some (t .wrong) (expects t) ws e
 abbrev pub Rest : List ℕ → ℕ → Tail → Type 0
 Rest bytes i t = isUtf8 bytes ≡ goOn (follows t) (λ ws. wellFormed (drop i bytes) ws)
 
-pub rest-start : (bytes : List ℕ) (t : Tail) → follows t ≡ some [] → Rest bytes 0 t
+-- A byte of ASCII awaits none.
+ascii-first : (b : ℕ) (s : List ℕ) → b < 0x80 → wellFormed (b ∷ s) [] ≡ wellFormed s []
+unfolding wellFormed look
+ascii-first b s h = simp (lt-ltb b 0x80 h)
+
+-- The bytes from a place on are as well formed as those from the other.
+abbrev pub Alike : List ℕ → ℕ → ℕ → Type 0
+Alike bytes i j = wellFormed (drop i bytes) [] ≡ wellFormed (drop j bytes) []
+
+pub ascii-next : (bytes : List ℕ) (i : ℕ) → i < length bytes → getD bytes i 0 < 0x80 → Alike bytes i (i + 1)
+ascii-next bytes i h a =
+    ap (λ l. wellFormed l []) (drop-cons bytes i 0 h) ∙ ascii-first (getD bytes i 0) (drop (suc i) bytes) a
+    ∙ ap (λ n. wellFormed (drop n bytes) []) (sym (add-one i))
+
+pub rest-start : (bytes : List ℕ) (i : ℕ) (t : Tail) → follows t ≡ some [] → Alike bytes 0 i → Rest bytes i t
 unfolding isUtf8
-rest-start bytes t e = ap (λ o. goOn o (λ ws. wellFormed bytes ws)) (sym e)
+rest-start bytes i t e a = a ∙ ap (λ o. goOn o (λ ws. wellFormed (drop i bytes) ws)) (sym e)
+
+none-open : (w : Bool) (n low high : ℕ) (s u : List ℕ) → n ≡ 0 → wellFormed s [] ≡ wellFormed u []
+    → goOn (unless w (following n low high)) (λ ws. wellFormed s ws) ≡ goOn (unless w (following n low high)) (λ ws. wellFormed u ws)
+none-open true n low high s u e a = refl
+none-open false zero low high s u e a = a
+none-open false (suc n) low high s u e a = absurd (omega arith)
+
+pub rest-skip : (bytes : List ℕ) (i j : ℕ) (t : Tail) → t .left ≡ 0 → Alike bytes i j → Rest bytes i t → Rest bytes j t
+rest-skip bytes i j t e a r = r ∙ none-open (t .wrong) (t .left) (t .low) (t .high) (drop i bytes) (drop j bytes) e a
 
 going : (w : Bool) (ws : _) (f : _ → Bool) → w ≡ false → goOn (unless w ws) f ≡ f ws
 going true ws f e = absurd (true≢false e)

@@ -3,6 +3,7 @@ use mathlib.Core.Path.{_≡_}
 use mathlib.Core.List.{List}
 use mathlib.Core.Bool.{Bool, true, _&&_}
 use Prim.Native.Nat.{ℕ, _+_, _*_, _≤_}
+use lib.ListN.{length}
 use Rattle.document.specs.Date.{isDate, isSecond, isZone}
 use Rattle.document.specs.Moments.{inOrder}
 use Rattle.document.specs.Schema.{mealCodes}
@@ -10,6 +11,9 @@ use Rattle.document.specs.Valid.{ifGiven}
 use Rattle.document.specs.Untable.{dateOf, zoneOf}
 use Rattle.document.specs.declared.table.Text.{Text}
 use Rattle.document.specs.declared.table.Head.{Head}
+use Rattle.document.specs.declared.table.Table.{Table}
+use Rattle.document.specs.Write.{readable}
+use Rattle.words.specs.ByWords.{ByWords}
 use Rattle.words.specs.Standing.{belowAt}
 use Rattle.checking.specs.Checks.{StringAt, DetailAt, Zeros}
 
@@ -38,6 +42,7 @@ pub record HeadRight (h : Head) (purpose : ℕ) : Type 0 where
   pub unit : (purpose ≡ 3 → ⊥) → 1 ≤ h .unit .len
 
 pub record LaidAt (ws buffer : List ℕ) (h : Head) (count text : ℕ) : Type 0 where
+  pub all : length ws ≡ 384
   pub room : text ≤ 2048
   pub fits : count ≤ 64
   pub counted : count ≡ 1 + belowAt ws 0
@@ -45,3 +50,9 @@ pub record LaidAt (ws buffer : List ℕ) (h : Head) (count text : ℕ) : Type 0 
   pub detail : DetailAt ws buffer 3 0 0 taken
   pub pieces : PiecesAt buffer h taken text
   pub zeros : Zeros ws (count * 6)
+
+-- What the writer does not refuse with 18.
+pub record ReadableWords (purpose : ℕ) (h : Head) (count text : ℕ) (ws buffer : List ℕ) : Type 0 where
+  pub table : Table
+  pub by : ByWords table h count text ws
+  pub readable : readable purpose table buffer ≡ true

@@ -223,17 +223,16 @@ pub(crate) fn detail(
     sequence(words, i, left, buffer, text)
 }
 
-// The words from record i on are zero.
+// The words from record i on are zero. They are looked at without an exit between them, so that a processor takes several at once.
 pub(crate) fn unused(words: &[u64], i: usize) -> bool
     requires { ⌜ (length (now words) ≡ 384) × (i ≤ 64) ⌝ }
     ensures { λ r. ⌜ Decides (Zeros (now (words .entry)) (i * 6)) r ⌝ }
 {
     let mut at = i * 6;
+    let mut zero = true;
     while at < words.len() {
-        if words[at] != 0 {
-            return false;
-        }
+        zero = zero & (words[at] == 0);
         at += 1;
     }
-    true
+    zero
 }

@@ -7,19 +7,16 @@ use document::table::Date;
 use document::table::Head;
 use document::table::MEAL_CODES;
 use document::table::RECORDS;
-use document::table::Table;
 use document::table::Text;
 use document::table::WORDS;
 use doses::below;
-use words::table_words;
 ghost use mathlib.Core.Path.{_≡_};
 ghost use Rattle.document.specs.Date.{isDate};
 ghost use Rattle.document.specs.Valid.{ifGiven};
 ghost use Rattle.document.specs.Untable.{dateOf};
 ghost use Rattle.doses.specs.Doses.{Decides};
 ghost use Rattle.checking.specs.Checks.{Checks};
-ghost use Rattle.checking.specs.Readable.{momentIn, PieceAt, PiecesAt, HeadRight, LaidAt};
-ghost use Rattle.document.specs.Write.{readable};
+ghost use Rattle.checking.specs.Readable.{momentIn, PieceAt, PiecesAt, HeadRight, LaidAt, ReadableWords};
 
 fn is_moment(second: u32, west: bool, zone: u16) -> bool
     ensures { λ r. ⌜ r ≡ momentIn second west zone ⌝ }
@@ -183,14 +180,19 @@ fn is_laid(words: &[u64; WORDS], buffer: &[u8], h: Head, count: usize, text: usi
     false
 }
 
-// What the writer refuses with 18 is not readable.
-pub fn is_readable(t: Table, buffer: &[u8], purpose: u64) -> bool
-    ensures { λ r. ⌜ r ≡ readable purpose t (now (buffer .entry)) ⌝ }
+// What the writer refuses with 18 is not readable: a table by its head, its two counts and the words of its records.
+pub fn is_readable(
+    h: Head,
+    count: usize,
+    text: usize,
+    words: &[u64; WORDS],
+    buffer: &[u8],
+    purpose: u64,
+) -> bool
+    ensures { λ r. ⌜ Decides (ReadableWords purpose h count text (now (words .entry)) (now (buffer .entry))) r ⌝ }
 {
-    let h = t.head;
     if head_right(h, purpose) {
-        let words = table_words(t);
-        if is_laid(&words, buffer, h, t.count, t.text) {
+        if is_laid(words, buffer, h, count, text) {
             return true;
         }
         return false;

@@ -1,8 +1,9 @@
 // Whether some bytes are UTF-8 (RFC 3629).
 ghost use mathlib.Core.Path.{_≡_};
-ghost use mathlib.Core.List.{List, _∷_};
+ghost use mathlib.Core.List.{List, [], _∷_};
 ghost use mathlib.Core.Option.{some};
-ghost use Prim.Native.Nat.{ℕ};
+ghost use Prim.Native.Nat.{ℕ, _≤_};
+ghost use lib.ListN.{drop};
 ghost use Rattle.json.specs.Rows.{look};
 ghost use Rattle.document.specs.Utf8.{followRows, goOn, wellFormed, isUtf8};
 ghost use Rattle.checking.specs.Tails.{following, expects, follows};
@@ -98,17 +99,34 @@ fn after(t: Tail, b: u8) -> Tail
     awaiting(t.left - 1, 0x80, 0xBF)
 }
 
+// The first place from `at` on whose byte is none of ASCII.
+fn ascii_end(bytes: &[u8], at: usize) -> usize
+    ensures { λ r. ⌜ (at ≤ r) × (wellFormed (drop at (now (bytes .entry))) [] ≡ wellFormed (drop r (now (bytes .entry))) []) ⌝ }
+{
+    let mut i = at;
+    while i < bytes.len() {
+        if 0x80 <= bytes[i] {
+            return i;
+        }
+        i += 1;
+    }
+    i
+}
+
 pub(crate) fn is_utf8(bytes: &[u8]) -> bool
     ensures { λ r. ⌜ r ≡ isUtf8 (now (bytes .entry)) ⌝ }
 {
     let mut t = awaiting(0, 0x80, 0xBF);
-    let mut i = 0;
+    let mut i = ascii_end(bytes, 0);
     while i < bytes.len() {
         t = after(t, bytes[i]);
         if t.wrong {
             return false;
         }
         i += 1;
+        if t.left == 0 {
+            i = ascii_end(bytes, i);
+        }
     }
     t.left == 0
 }

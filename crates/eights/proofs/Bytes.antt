@@ -4,9 +4,9 @@ use mathlib.Core.Path.{_≡_, refl, sym, ap, _∙_}
 use mathlib.Core.List.{List, [], _∷_, _++_, append-nil}
 use native.Mathlib.Omega.{arith}
 use native.Mathlib.Nat.{add-zero}
-use native.Mathlib.Numerals.{add-one}
 use lib.ListN.{length, drop, getD, set, drop-of-length-le}
-use lib.Seq.{sets, sets-eq, getD-drop, drop-drop, drop-length}
+use lib.Seq.{sets, sets-eq, getD-drop, getD-set-same, getD-set-other, drop-drop, drop-length}
+use borrow.Author.Count.{below-more}
 use Rattle.json.proofs.Moves.{byte-here}
 use Rattle.json.proofs.Stores.{sets-append}
 use Rattle.eights.specs.Eights.{bytesOf, allBytes, numberIn}
@@ -67,11 +67,6 @@ unfolding bytesOf
 bytes-behind zero x k = refl
 bytes-behind (suc n) x k = bytes-behind n (x / 256) k
 
--- A number's first byte is stored first.
-pub byte-first : (n m x : ℕ) (l : List ℕ) (at : ℕ) → n ≡ suc m → sets l at (bytesOf n x []) ≡ sets (set l at (x % 256)) (at + 1) (bytesOf m (x / 256) [])
-unfolding bytesOf
-byte-first n m x l at e = rw (e, add-one)
-
 -- The first four bytes of a number.
 pub four-first : (n at : ℕ) (bytes : List ℕ) → numberIn (suc (suc (suc (suc n)))) (drop at bytes) ≡ getD bytes at 0 + getD bytes (at + 1) 0 * 256 + getD bytes (at + 2) 0 * 65536 + getD bytes (at + 3) 0 * 16777216 + numberIn n (drop (at + 4) bytes) * 4294967296
 four-first n at bytes =
@@ -103,3 +98,11 @@ number-next ws l m from i h e =
     let at : from + (i + 1) * 8 ≡ from + i * 8 + 8 = omega arith in
     rw (e, at)
     (sym (number-first (getD ws i 0) (drop (i + 1) ws) l (from + i * 8)) ∙ ap (λ (s : List ℕ). sets l (from + i * 8) (allBytes s)) (sym (byte-here ws i h)))
+
+-- What is taken so far, once the next number is.
+pub taken-next : (f : ℕ → ℕ) (ns : List ℕ) (i x : ℕ) → i < length ns → ((k : ℕ) → k < i → getD ns k 0 ≡ f k) → x ≡ f i
+    → (k : ℕ) → k < i + 1 → getD (set ns i x) k 0 ≡ f k
+taken-next f ns i x h all e =
+    below-more (λ (k : ℕ). getD (set ns i x) k 0 ≡ f k) i
+    (λ k l. getD-set-other ns i k x 0 (λ g. omega arith) ∙ all k l)
+    (getD-set-same ns i x 0 h ∙ e)

@@ -3,7 +3,6 @@ use Prim.Native.Nat.{ℕ, zero, suc, _+_, _<_}
 use mathlib.Core.List.{List, [], _∷_}
 use native.Mathlib.Omega.{arith}
 use lib.ListN.{drop, getD}
-use Rattle.document.specs.declared.table.Date.the-variants as D
 use Rattle.document.specs.declared.table.Dosage.the-variants as S
 use Rattle.document.specs.declared.table.Kind.{Kind}
 use Rattle.document.specs.declared.table.Kind.the-variants as K
@@ -15,7 +14,7 @@ use Rattle.eights.proofs.Bytes.{room}
 use Rattle.kinds.proofs.Fill.{groups-length}
 use Rattle.held.proofs.Parts.{AllBelow}
 
-behind : (n : ℕ) (bytes : List ℕ) → AllBytes bytes → AllBytes (drop n bytes)
+pub behind : (n : ℕ) (bytes : List ℕ) → AllBytes bytes → AllBytes (drop n bytes)
 behind zero bytes h = h
 behind (suc n) [] h = tt
 behind (suc n) (b ∷ bytes) h = behind n bytes (h .1)

@@ -1,4 +1,6 @@
 pub mod AreaBack
+pub mod ByParts
+mod Groups
 mod InFits
 mod Numbers
 mod Parts

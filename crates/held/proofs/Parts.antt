@@ -1,14 +1,14 @@
 -- The numbers of a table that fits its types, part by part, and back.
 use Prim.Native.Nat.{ℕ, _+_}
 use mathlib.Core.Path.{_≡_, refl, sym, ap, _∙_}
-use mathlib.Core.List.{List, [], _∷_}
+use mathlib.Core.List.{List, [], _∷_, _++_}
 use mathlib.Core.Bool.{Bool, true, false}
 use native.Mathlib.Nat.{mod-eq-of-lt}
 use native.Mathlib.Omega.{arith}
 use lib.Dec.{eqb}
-use lib.ListN.{length, drop, getD}
-use lib.Seq.{getD-drop, drop-drop}
-use Rattle.document.specs.Words.{Words, kindWords, allWords, row, rows, flag, dateWords, textWords, tableWords}
+use lib.ListN.{length, take, drop, getD}
+use lib.Seq.{getD-drop, take-at, drop-at}
+use Rattle.document.specs.Words.{Words, kindWords, allWords, row, rows, flag, dateWords, textWords, headWords, tableWords}
 use Rattle.document.specs.declared.table.Text.{Text}
 use Rattle.document.specs.declared.table.Date.{Date}
 use Rattle.document.specs.declared.table.Date.the-variants as D
@@ -20,7 +20,7 @@ use Rattle.document.specs.declared.table.Table.{Table}
 use Rattle.kinds.specs.Kinds.{kindOf, recordIn, groups}
 use Rattle.area.specs.Area.{dateOf, dateIn, headIn, tableOfNumbers}
 use Rattle.words.proofs.Rowed.{rows-length}
-use Rattle.area.proofs.Laid.{date-length}
+use Rattle.area.proofs.Laid.{date-length, head-front, head-length}
 use Rattle.held.specs.Fits.{U64, TextFits, DateFits, KindFits, AllFit, Fitting}
 
 abbrev made : Kind → ℕ → Record
@@ -82,6 +82,24 @@ module _ (d e : Date) (k : List ℕ) where
   behind : (i : ℕ) → getD (dateWords d (dateWords e k)) (14 + i) 0 ≡ getD k i 0
   behind i = sym (getD-drop 14 (dateWords d (dateWords e k)) i 0) ∙ ap (λ (l : List ℕ). getD l i 0) (dates-behind d e k)
 
+-- A table's numbers: those of its head in front, and the words of its records behind them.
+module _ (t : Table) where
+  abbrev pub headNumbers : List ℕ
+  headNumbers = headWords (t .head) (t .count ∷ t .text ∷ [])
+
+  abbrev recordNumbers : List ℕ
+  recordNumbers = rows (allWords (t .records))
+
+  pub in-parts : tableWords t ≡ headNumbers ++ recordNumbers
+  unfolding tableWords
+  in-parts = sym (head-front (t .head) (t .count ∷ t .text ∷ []) recordNumbers)
+
+  pub words-front : take 26 (tableWords t) ≡ headNumbers
+  words-front = ap (take 26) in-parts ∙ take-at headNumbers recordNumbers 26 (head-length (t .head) (t .count) (t .text))
+
+  pub words-behind : drop 26 (tableWords t) ≡ recordNumbers
+  words-behind = ap (drop 26) in-parts ∙ drop-at headNumbers recordNumbers 26 (head-length (t .head) (t .count) (t .text))
+
 -- The table that a table's numbers stand for is that table.
 pub numbers-one : (t : Table) → Fitting t → tableOfNumbers (tableWords t) ≡ t
 unfolding tableWords headIn
@@ -91,8 +109,7 @@ numbers-one t f =
     let rest : List ℕ = t .count ∷ t .text ∷ rows (allWords (t .records)) in
     let texts : List ℕ = flag (h .reserve) ∷ h .meal ∷ textWords (h .unit) (textWords (h .instructions) (textWords (h .roa) (textWords (h .moa) rest))) in
     let at : (i : ℕ) → getD (tableWords t) (14 + i) 0 ≡ getD texts i 0 = behind (h .from) (h .to) texts in
-    let all : drop 26 (tableWords t) ≡ rows (allWords (t .records)) =
-    sym (drop-drop 12 14 (tableWords t)) ∙ ap (drop 12) (dates-behind (h .from) (h .to) texts) in
+    let all = words-behind t in
     let records : groups 6 recordIn 64 (drop 26 (tableWords t)) ≡ t .records =
     ap (groups 6 recordIn 64) all ∙ ap (λ (n : ℕ). groups 6 recordIn n (rows (allWords (t .records)))) (sym (f .all)) ∙ records-back (t .records) (f .records) in
     let to : dateIn (drop 7 (tableWords t)) ≡ h .to = ap dateIn (date-behind (h .from) (dateWords (h .to) texts)) ∙ date-back (h .to) texts (g .to) in

@@ -1,4 +1,4 @@
--- What the numbers at a place stand for.
+-- The date that the numbers at a place stand for.
 use Prim.Native.Nat.{ℕ, _+_, _≤_}
 use mathlib.Core.Path.{_≡_, sym, ap, _∙_}
 use mathlib.Core.List.{List, [], _∷_}
@@ -8,12 +8,8 @@ use lib.ListN.{getD, drop, List·getD-eq-default}
 use lib.Seq.{getD-drop}
 use Rattle.document.specs.declared.table.Date.{Date}
 use Rattle.document.specs.declared.table.Date.the-variants as D
-use Rattle.document.specs.declared.table.Kind.the-variants as K
-use Rattle.document.specs.declared.table.Record.{Record}
-use Rattle.document.specs.declared.table.Head.{Head}
-use Rattle.document.specs.declared.table.Table.{Table}
-use Rattle.kinds.specs.Kinds.{recordIn, u8, u16, u32, groups}
-use Rattle.area.specs.Area.{dateOf, dateIn, headIn, tableOfNumbers}
+use Rattle.kinds.specs.Kinds.{u8, u16, u32}
+use Rattle.area.specs.Area.{dateOf, dateIn}
 
 -- The date of the seven numbers at a place, by its form.
 module _ (ws : List ℕ) (at : ℕ) where
@@ -30,11 +26,3 @@ module _ (ws : List ℕ) (at : ℕ) where
   pub moment-at : 2 ≤ getD ws at 0 → D.Moment (u16 (getD ws (at + 1) 0)) (u8 (getD ws (at + 2) 0)) (u8 (getD ws (at + 3) 0)) (u32 (getD ws (at + 4) 0)) (eqb (getD ws (at + 5) 0) 1) (u16 (getD ws (at + 6) 0)) ≡ dateIn (drop at ws)
   unfolding dateOf
   moment-at h = sym (List·getD-eq-default (D.Absent ∷ D.Bare (u16 (getD ws (at + 1) 0)) (u8 (getD ws (at + 2) 0)) (u8 (getD ws (at + 3) 0)) ∷ []) _ h) ∙ date-here
-
--- The table of numbers, put together.
-pub table-here : (ws : List ℕ) (h : Head) (rs : List Record) → h ≡ headIn ws → rs ≡ groups 6 recordIn 64 (drop 26 ws) → _≡_ {A = Table} (record { head = h; count = getD ws 24 0; text = getD ws 25 0; records = rs }) (tableOfNumbers ws)
-table-here ws h rs e f =
-    ap (λ (x : Head). tableWith ws x rs) e ∙ ap (tableWith ws (headIn ws)) f
-  where
-    tableWith : List ℕ → Head → List Record → Table
-    tableWith l x y = record { head = x; count = getD l 24 0; text = getD l 25 0; records = y }

@@ -1,32 +1,64 @@
-// The table that an area's bytes lay out (docs/AREA.md).
+// The head, the counts and the words of records that an area's bytes would lay out (docs/AREA.md).
 use document::table::Date;
 use document::table::Head;
-use document::table::Kind;
-use document::table::RECORDS;
-use document::table::Record;
-use document::table::Table;
 use document::table::Text;
+use document::table::WORDS;
 ghost use mathlib.Core.Path.{_≡_};
-ghost use Prim.Native.Nat.{_*_, _<_};
-ghost use lib.ListN.{drop};
-ghost use Rattle.kinds.specs.Kinds.{groups, recordIn};
-ghost use Rattle.area.specs.Area.{numbersIn, dateIn, textIn, headIn, tableIn, isArea};
+ghost use Prim.Native.Nat.{_<_};
+ghost use lib.ListN.{length, take, drop};
+ghost use Rattle.document.specs.Lookup.{same};
+ghost use Rattle.area.specs.Area.{areaBytes, numbersIn, dateIn, textIn, headIn};
+ghost use Rattle.held.specs.Parts.{HeadIs, wordsIn};
 
-const NUMBERS: usize = 410;
+const HEAD: usize = 26;
 
-fn numbers_in(area: &[u8]) -> [u64; NUMBERS]
-    ensures { λ r. ⌜ r ≡ numbersIn (now (area .entry)) ⌝ }
+// The head's part of an area: whether these numbers are those of the head and the counts that they are read as.
+pub struct HeadPart {
+    pub laid: bool,
+    pub head: Head,
+    pub count: usize,
+    pub text: usize,
+}
+
+fn head_numbers(area: &[u8]) -> [u64; HEAD]
+    ensures { λ r. ⌜ r ≡ take 26 (numbersIn (now (area .entry))) ⌝ }
 {
-    let mut numbers = [0u64; NUMBERS];
+    let mut numbers = [0u64; HEAD];
     let mut i = 0;
-    while i < NUMBERS {
+    while i < HEAD {
         numbers[i] = eights::number_at(area, i * 8);
         i += 1;
     }
     numbers
 }
 
-fn date_at(n: &[u64; NUMBERS], at: usize) -> Date
+// Taken in one go.
+fn whole_words(area: &[u8]) -> [u64; WORDS]
+    requires { ⌜ length (now area) ≡ areaBytes ⌝ }
+    ensures { λ r. ⌜ r ≡ wordsIn (now (area .entry)) ⌝ }
+{
+    let mut words = [0u64; WORDS];
+    eights::take_numbers(area, 208, &mut words);
+    words
+}
+
+// The words of the records, behind the head's numbers.
+pub fn words_in(area: &[u8]) -> [u64; WORDS]
+    ensures { λ r. ⌜ r ≡ wordsIn (now (area .entry)) ⌝ }
+{
+    if area.len() == area::AREA {
+        return whole_words(area);
+    }
+    let mut words = [0u64; WORDS];
+    let mut i = 0;
+    while i < WORDS {
+        words[i] = eights::number_at(area, 208 + i * 8);
+        i += 1;
+    }
+    words
+}
+
+fn date_at(n: &[u64; HEAD], at: usize) -> Date
     requires { ⌜ at < 20 ⌝ }
     ensures { λ r. ⌜ r ≡ dateIn (drop at (now (n .entry))) ⌝ }
 {
@@ -52,7 +84,7 @@ fn date_at(n: &[u64; NUMBERS], at: usize) -> Date
     }
 }
 
-fn text_at(n: &[u64; NUMBERS], at: usize) -> Text
+fn text_at(n: &[u64; HEAD], at: usize) -> Text
     requires { ⌜ at < 24 ⌝ }
     ensures { λ r. ⌜ r ≡ textIn at (now (n .entry)) ⌝ }
 {
@@ -62,7 +94,7 @@ fn text_at(n: &[u64; NUMBERS], at: usize) -> Text
     }
 }
 
-fn head_in(n: &[u64; NUMBERS]) -> Head
+fn head_in(n: &[u64; HEAD]) -> Head
     ensures { λ r. ⌜ r ≡ headIn (now (n .entry)) ⌝ }
 {
     Head {
@@ -77,41 +109,32 @@ fn head_in(n: &[u64; NUMBERS]) -> Head
     }
 }
 
-fn records_in(n: &[u64; NUMBERS]) -> [Record; RECORDS]
-    ensures { λ r. ⌜ r ≡ groups 6 recordIn 64 (drop 26 (now (n .entry))) ⌝ }
+fn same_numbers(a: &[u64; HEAD], b: &[u64; HEAD]) -> bool
+    requires { ⌜ (length (now a) ≡ 26) × (length (now b) ≡ 26) ⌝ }
+    ensures { λ r. ⌜ r ≡ same (now (a .entry)) (now (b .entry)) ⌝ }
 {
-    let mut records = [Record {
-        kind: Kind::None,
-        below: 0,
-    }; RECORDS];
     let mut i = 0;
-    while i < RECORDS {
-        records[i] = kinds::record_at(n, 26 + i * 6);
+    while i < HEAD {
+        if a[i] != b[i] {
+            return false;
+        }
         i += 1;
     }
-    records
+    true
 }
 
-// The table that the bytes would lay out: what no table's bytes can be is read as something that lies otherwise.
-pub fn table_in(area: &[u8]) -> Table
-    ensures { λ r. ⌜ r ≡ tableIn (now (area .entry)) ⌝ }
+pub fn head_part(area: &[u8]) -> HeadPart
+    ensures { λ r. ⌜ HeadIs (now (area .entry)) r ⌝ }
 {
-    let n = numbers_in(area);
-    let head = head_in(&n);
-    let records = records_in(&n);
-    Table {
-        head: head,
-        count: n[24] as usize,
-        text: n[25] as usize,
-        records: records,
+    let n = head_numbers(area);
+    let h = head_in(&n);
+    let count = n[24] as usize;
+    let text = n[25] as usize;
+    let back = area::head_numbers(h, count, text);
+    HeadPart {
+        laid: same_numbers(&back, &n),
+        head: h,
+        count: count,
+        text: text,
     }
-}
-
-// Whether the bytes lay out a table.
-pub fn is_area(area: &[u8]) -> bool
-    ensures { λ r. ⌜ r ≡ isArea (now (area .entry)) ⌝ }
-{
-    let mut laid = [0u8; area::AREA];
-    area::lay(table_in(area), &mut laid);
-    check::same(&laid, area)
 }

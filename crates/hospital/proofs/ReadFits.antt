@@ -1,6 +1,6 @@
 -- The table of a posology that can be read fits its types.
 use Prim.Native.Nat.{ℕ, zero, suc, _+_, _-_, _^_, _≤_}
-use mathlib.Core.Path.{_≡_, ap, _∙_}
+use mathlib.Core.Path.{_≡_, ap, subst, _∙_}
 use mathlib.Core.List.{List, [], _∷_, append-nil}
 use mathlib.Core.Bool.{true, false≢true}
 use mathlib.Core.Option.{Option, none, some, Option·getD}
@@ -14,13 +14,16 @@ use Rattle.document.specs.Date.{isDay, isSecond, isDate}
 use Rattle.document.specs.Schema.{greatestInteger, greatestDecimal, mealCodes, sequencesInside, underSingle, underDays, underCyclic}
 use Rattle.document.specs.Valid.{isAmount, isDuration, isTimeUnit, isDays, every, validDosage, validAtTime, validInSegment, validTimed, validDetail, validObject, validObjects, timedRecords, detailRecords, objectRecords, objectsRecords, ifGiven, isMeal, valid, detailStrings, objectStrings, objectsStrings, strings}
 use Rattle.document.specs.Table.{noRecord, dateCell, textCell, lengthOf, dosageCell, daySet, timesRows, segmentsRows, timedRows, detailRows, objectRows, objectsRows, filled, headOf, tableOf, recordsInTable}
+use Rattle.document.specs.Write.{readable}
 use Rattle.document.specs.declared.table.Record.{Record}
+use Rattle.document.specs.declared.table.Table.{Table}
 use Rattle.document.proofs.Ranges.{in-range}
 use Rattle.document.proofs.DetailParts.{simple-parts, from-to-parts, range-parts, first-time, first-segment, dosage-only-parts, times-parts, segments-parts, week-parts, month-parts, interval-parts, daily-parts, cyclic-parts, sequence-parts, posology-sequence-parts, pause-parts, objects-parts}
 use Rattle.document.proofs.ValidParts.{valid-parts, few-records}
 use Rattle.document.proofs.WrittenDates.{small-day, moment-parts}
 use Rattle.document.proofs.Strings.{strings-size}
 use Rattle.document.proofs.Untables.{joined-append, object-append}
+use Rattle.document.proofs.Tables.{stands-for}
 use Rattle.document.proofs.Untabled.{detail-length, filled-is}
 use Rattle.doses.proofs.DaySums.{days-sum}
 use Rattle.held.specs.Fits.{U8, U32, U64, TextFits, DayFits, DateFits, DosageFits, AllFit, Fitting}
@@ -166,3 +169,9 @@ read-fits purpose p v s =
     filled-length rs h =
         ap length (filled-is recordsInTable rs h) ∙ length-append rs (replicate (recordsInTable - length rs) noRecord)
         ∙ ap (λ (m : ℕ). length rs + m) (length-replicate (recordsInTable - length rs) noRecord) ∙ omega arith
+
+-- So does every readable table.
+pub readable-fits : (purpose : ℕ) (t : Table) (bytes : List ℕ) → readable purpose t bytes ≡ true → Fitting t
+readable-fits purpose t bytes h =
+    let s = stands-for purpose t bytes h in
+    subst Fitting (s .table) (read-fits purpose (s .is) (s .valid) (s .fits))

@@ -20,10 +20,20 @@ pub extern "C" fn posology_write(
     if !is_use(purpose) {
         return 17;
     }
-    if !held::is_area(table) {
+    let part = held::head_part(table);
+    if !part.laid {
         return 18;
     }
-    let w = writer::write(held::table_in(table), strings, purpose, out);
+    let words = held::words_in(table);
+    let w = writer::write_words(
+        part.head,
+        part.count,
+        part.text,
+        &words,
+        strings,
+        purpose,
+        out,
+    );
     let told = telling::told_writing(w);
     *place = told.place;
     told.number

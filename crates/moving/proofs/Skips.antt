@@ -1,11 +1,11 @@
 -- What a byte does to a skip.
-use Prim.Native.Nat.{ℕ, zero, suc, _+_, _-_}
-use mathlib.Core.Path.{_≡_, refl, sym, ap}
+use Prim.Native.Nat.{ℕ, zero, suc, _+_, _-_, _≤_, _<_}
+use mathlib.Core.Path.{_≡_, refl, sym, ap, _∙_}
 use mathlib.Core.List.{List, [], _∷_, tail}
-use mathlib.Core.Bool.{Bool, true, false}
+use mathlib.Core.Bool.{Bool, true, false, _||_, cond, false≢true}
 use lib.ListN.{drop}
 use lib.Dec.{eqb}
-use borrow.Author.Tests.{eq-eqb, ne-eqb}
+use borrow.Author.Tests.{eq-eqb, ne-eqb, eqb-true}
 use native.Mathlib.Numerals.{add-one}
 use native.Mathlib.Omega.{arith}
 use Rattle.json.specs.Rows.{choose}
@@ -88,6 +88,55 @@ module _ (b n : ℕ) where
       pub bracket-goes : closes b ≡ false → (s : Place) → behindBracket s n ≡ behindBracket (b ∷ s) n
       unfolding behindBracket
       bracket-goes l s = rw (ne-eqb b 34 q, o, l)
+
+-- The brackets that are open counted with the one that is sought: none are where it stands.
+pub at-most-one : (t : Bool) → cond t 1 0 ≤ 1
+at-most-one true = omega arith
+at-most-one false = omega arith
+
+opens-not-closes : (b : ℕ) → opens b ≡ true → closes b ≡ false
+unfolding opens closes
+opens-not-closes b h = go (eqb b 91) (eqb b 123) refl refl h
+  where
+    go : (x y : Bool) → eqb b 91 ≡ x → eqb b 123 ≡ y → (x || y) ≡ true → (eqb b 93 || eqb b 125) ≡ false
+    go true y e f g = let k = eqb-true b 91 e in rw (ne-eqb b 93 (λ z. omega arith), ne-eqb b 125 (λ z. omega arith))
+    go false true e f g = let k = eqb-true b 123 f in rw (ne-eqb b 93 (λ z. omega arith), ne-eqb b 125 (λ z. omega arith))
+    go false false e f g = absurd (false≢true g)
+
+module _ (b m r : ℕ) (q : b ≡ 34 → ⊥) (p : 0 < m) (e : r ≡ m + cond (opens b) 1 0 - cond (closes b) 1 0) where
+  pub bracket-on : (r ≡ 0 → ⊥) → (s : Place) → behindBracket s (r - 1) ≡ behindBracket (b ∷ s) (m - 1)
+  bracket-on z s = go (opens b) (closes b) refl refl
+    where
+      go : (x y : Bool) → opens b ≡ x → closes b ≡ y → behindBracket s (r - 1) ≡ behindBracket (b ∷ s) (m - 1)
+      go true y o l =
+          let k : r ≡ m + 1 - 0 = rw (o, opens-not-closes b o) at e in
+          ap (behindBracket s) (omega arith) ∙ bracket-opens b (m - 1) q o s
+      go false true o l =
+          let k : r ≡ m + 0 - 1 = rw (o, l) at e in
+          ap (behindBracket s) (omega arith) ∙ bracket-fewer b (m - 1) q o l (λ y. z (omega arith)) s
+      go false false o l =
+          let k : r ≡ m + 0 - 0 = rw (o, l) at e in
+          ap (behindBracket s) (omega arith) ∙ bracket-goes b (m - 1) q o l s
+
+  pub bracket-last : r ≡ 0 → (s : Place) → s ≡ behindBracket (b ∷ s) (m - 1)
+  bracket-last z s = go (opens b) (closes b) refl refl
+    where
+      go : (x y : Bool) → opens b ≡ x → closes b ≡ y → s ≡ behindBracket (b ∷ s) (m - 1)
+      go true y o l = let k : r ≡ m + 1 - 0 = rw (o, opens-not-closes b o) at e in absurd (omega arith)
+      go false true o l = let k : r ≡ m + 0 - 1 = rw (o, l) at e in bracket-closes b (m - 1) q o l (omega arith) s
+      go false false o l = let k : r ≡ m + 0 - 0 = rw (o, l) at e in absurd (omega arith)
+
+-- A blank neither opens nor closes.
+no-open : (b : ℕ) → b ≤ 32 → opens b ≡ false
+unfolding opens
+no-open b h = rw (ne-eqb b 91 (λ z. omega arith), ne-eqb b 123 (λ z. omega arith))
+
+no-close : (b : ℕ) → b ≤ 32 → closes b ≡ false
+unfolding closes
+no-close b h = rw (ne-eqb b 93 (λ z. omega arith), ne-eqb b 125 (λ z. omega arith))
+
+pub bracket-blank : (b n : ℕ) → b ≤ 32 → (s : Place) → behindBracket s n ≡ behindBracket (b ∷ s) n
+bracket-blank b n h = bracket-goes b n (λ z. omega arith) (no-open b h) (no-close b h)
 
 pub bracket-over : (n : ℕ) → [] ≡ behindBracket [] n
 unfolding behindBracket

@@ -2,6 +2,8 @@
 use scan::byte;
 ghost use mathlib.Core.Path.{_≡_};
 ghost use mathlib.Core.List.{tail};
+ghost use mathlib.Core.Bool.{cond};
+ghost use Prim.Native.Nat.{_+_, _-_, _<_};
 ghost use lib.ListN.{drop};
 ghost use Rattle.json.specs.Byte.{isNumeric};
 ghost use Rattle.json.specs.Tree.{Moves};
@@ -84,19 +86,27 @@ pub fn behind_string(text: &[u8], at: usize) -> usize
 fn opens(b: u8) -> bool
     ensures { λ r. ⌜ r ≡ opensHere b ⌝ }
 {
-    if b == b'[' {
-        return true;
-    }
-    b == b'{'
+    (b == b'[') | (b == b'{')
 }
 
 fn closes(b: u8) -> bool
     ensures { λ r. ⌜ r ≡ closesHere b ⌝ }
 {
-    if b == b']' {
-        return true;
-    }
-    b == b'}'
+    (b == b']') | (b == b'}')
+}
+
+fn one_if(test: bool) -> usize
+    ensures { λ r. ⌜ r ≡ cond test 1 0 ⌝ }
+{
+    if test { 1 } else { 0 }
+}
+
+// The brackets that are open behind a byte, counted without a branch: in a list of all kinds in no order a processor would guess each wrong.
+fn open_behind(b: u8, n: usize) -> usize
+    requires { ⌜ (0 < n) × (n < 0xFFFFFFFFFFFFFFFF) ⌝ }
+    ensures { λ r. ⌜ r ≡ n + cond (opensHere b) 1 0 - cond (closesHere b) 1 0 ⌝ }
+{
+    n + one_if(opens(b)) - one_if(closes(b))
 }
 
 // The place behind the bracket that closes a list or an object, from a place inside it.
@@ -104,19 +114,17 @@ fn behind_bracket(text: &[u8], at: usize) -> usize
     ensures { λ r. ⌜ Moves (λ s. behindBracket s 0) (now (text .entry)) at r ⌝ }
 {
     let mut i = at;
-    let mut open: usize = 0;
+    let mut open: usize = 1;
     while i < text.len() {
         let b = text[i];
         i += 1;
         if b == b'"' {
             i = behind_string(text, i);
-        } else if opens(b) {
-            open += 1;
-        } else if closes(b) {
+        } else if b' ' < b {
+            open = open_behind(b, open);
             if open == 0 {
                 return i;
             }
-            open -= 1;
         }
     }
     i

@@ -1,14 +1,12 @@
 -- A hash, byte by byte.
 use Prim.Native.Nat.{ℕ, _+_, _*_, _%_, _^_, _<_, _≤_}
-use mathlib.Core.Path.{_≡_, ap, _∙_}
-use mathlib.Core.List.{List, [], _∷_}
+use mathlib.Core.Path.{_≡_, refl, sym, ap, _∙_}
+use mathlib.Core.List.{List, [], _∷_, _++_}
 use lib.ListN.{length, getD, take, drop, length-take, drop-of-length-le}
 use lib.Seq.{drop-cons, getD-take}
 use native.Mathlib.Nat.{mul-le-mul}
 use native.Mathlib.Numerals.{add-one}
 use native.Mathlib.Omega.{arith}
-use Rattle.characters.specs.Characters.{ahead, Sound}
-use Rattle.characters.specs.declared.Cursor.{Cursor}
 use Rattle.names.specs.Names.{hashOn, hashFrom, hashOf, seedOf, firstSlot}
 
 pub product-fits : {x y : ℕ} → x ≤ 0x1000000FF → y ≤ 0xBFFFFFFF → x * y < 2 ^ 64
@@ -16,6 +14,11 @@ product-fits a b = omega (arith, mul-le-mul a b)
 
 pub sum-fits : {x y z : ℕ} → x ≤ 0xFFFFFFFF → y ≤ 0xFFFFFFFF → z ≤ 0xFFFFFFFF → x + y + z < 2 ^ 64
 sum-fits a b c = omega arith
+
+hash-append : (seed h : ℕ) (part s : List ℕ) → hashFrom seed h (part ++ s) ≡ hashFrom seed (hashFrom seed h part) s
+unfolding hashFrom
+hash-append seed h [] s = refl
+hash-append seed h (b ∷ part) s = hash-append seed (hashOn seed h b) part s
 
 module _ (seed h : ℕ) {rest : List ℕ} where
   pub hash-ends : rest ≡ [] → hashFrom seed h rest ≡ h
@@ -25,6 +28,9 @@ module _ (seed h : ℕ) {rest : List ℕ} where
   pub hash-on : {b : ℕ} {s : List ℕ} → rest ≡ b ∷ s → hashFrom seed h rest ≡ hashFrom seed (hashOn seed h b) s
   unfolding hashFrom
   hash-on e = rw e
+
+  pub hash-part : (part s : List ℕ) {g : ℕ} → rest ≡ part ++ s → g ≡ hashFrom seed h part → hashFrom seed g s ≡ hashFrom seed h rest
+  hash-part part s e f = rw (e, f) (sym (hash-append seed h part s))
 
 -- So many bytes of a text.
 module _ (seed h : ℕ) (text : List ℕ) (n i : ℕ) where
@@ -46,11 +52,6 @@ module _ (seed h : ℕ) (text : List ℕ) (n i : ℕ) where
 pub seeded : (text : List ℕ) {s r : ℕ} → s ≡ hashOf 0x9E3779B97F4A7C15 text → r ≡ hashOf s text → r ≡ seedOf text
 unfolding seedOf
 seeded text e f = f ∙ ap (λ x. hashOf x text) e
-
--- The bytes that are ahead of a cursor are to be hashed yet.
-pub record Hashes (seed : ℕ) (text bytes : List ℕ) (h : ℕ) (c : Cursor) : Type 0 where
-  pub sound : Sound c
-  pub hash : hashFrom seed h (ahead text c) ≡ hashFrom seed 0 bytes
 
 pub slot-is : (seed : ℕ) (bytes : List ℕ) {h r : ℕ} → h ≡ hashFrom seed 0 bytes → r ≡ h % 8053 → r ≡ firstSlot seed bytes
 unfolding firstSlot

@@ -1,9 +1,11 @@
 -- The letters of a name, packed one after the other, and the way over them to the member's value.
-use Prim.Native.Nat.{ℕ, _+_, _<_}
+use Prim.Native.Nat.{ℕ, _+_, _<_, _≤_}
 use mathlib.Core.Path.{_≡_, refl, sym, ap, subst, _∙_}
 use mathlib.Core.List.{List, [], _∷_, _++_, append-assoc, append-nil}
 use mathlib.Core.Bool.{false, not}
-use lib.ListN.{length, getD, length-append}
+use lib.ListN.{length, getD, take, length-append, length-take, drop-of-length-le}
+use lib.Seq.{slice, slice-cons}
+use native.Mathlib.Numerals.{add-one}
 use native.Mathlib.Omega.{arith}
 use borrow.Author.Tests.{not-false}
 use Rattle.json.specs.Tree.{Moves}
@@ -12,11 +14,11 @@ use Rattle.json.proofs.Moves.{Leads, lead-start, lead-one, lead-past, moved}
 use Rattle.scan.proofs.Strings.{ascii-lead}
 use Rattle.moving.specs.Moving.{behindString, behindColon, valueOf}
 use Rattle.moving.proofs.Skips.{string-closes, string-goes}
-use Rattle.characters.specs.Characters.{plainFrom, ahead, Sound}
-use Rattle.characters.specs.declared.Cursor.{Cursor}
+use Rattle.characters.specs.Characters.{plainFrom}
 use Rattle.characters.proofs.Ascii.{no-backslash, ascii-from}
 use Rattle.names.specs.Names.{Packs}
 use Rattle.names.specs.declared.Packed.{Packed}
+use Rattle.names.proofs.Packing.{packs-over}
 
 -- n letters of a name are packed, and the rest is ahead.
 pub record Letters (bytes : List ℕ) (p : Packed) (n : ℕ) (rest : List ℕ) : Type 0 where
@@ -37,19 +39,31 @@ module _ {bytes rest : List ℕ} {p : Packed} {n : ℕ} (l : Letters bytes p n r
   pub letters-few : n + length rest ≡ length bytes
   letters-few = omega (arith, l .size, length-append (l .name) rest, ap length (l .whole))
 
-  pub letters-on : {b : ℕ} {s : List ℕ} {r : Packed} → rest ≡ b ∷ s → ((name : List ℕ) → Packs name p → length name ≡ n → Packs (name ++ b ∷ []) r) → Letters bytes r (n + 1) s
-  letters-on {b} {s} e f =
-      record {
-        name = l .name ++ b ∷ [];
-        packs = f (l .name) (l .packs) (l .size);
-        size = omega (arith, l .size, length-append (l .name) (b ∷ []));
-        whole = append-assoc (l .name) (b ∷ []) s ∙ rw e at (l .whole);
-      }
+  -- the name is longer than what is packed
+  pub letters-over : 14 < n → Packs bytes p
+  letters-over h = subst (λ x. Packs x p) (l .whole) (packs-over rest (l .packs) (omega (arith, l .size)))
 
--- ---- decoded
-pub record Decodes (text bytes : List ℕ) (p : Packed) (n : ℕ) (c : Cursor) : Type 0 where
-  pub sound : Sound c
-  pub letters : Letters bytes p n (ahead text c)
+  module _ {s : List ℕ} {r : Packed} where
+    pub letters-more : (more : List ℕ) {m : ℕ} → rest ≡ more ++ s → length more ≡ m
+        → ((name : List ℕ) → Packs name p → length name ≡ n → Packs (name ++ more) r) → Letters bytes r (n + m) s
+    letters-more more e k f =
+        record {
+          name = l .name ++ more;
+          packs = f (l .name) (l .packs) (l .size);
+          size = omega (arith, k, l .size, length-append (l .name) more);
+          whole = append-assoc (l .name) more s ∙ rw e at (l .whole);
+        }
+
+    pub letters-on : {b : ℕ} → rest ≡ b ∷ s
+        → ((name : List ℕ) → Packs name p → length name ≡ n → Packs (name ++ b ∷ []) r) → Letters bytes r (n + 1) s
+    letters-on {b} e f = letters-more (b ∷ []) e refl f
+
+-- ---- those of a part of a text
+pub part-on : (text : List ℕ) (i end : ℕ) → i < end → end ≤ length text → slice i end text ≡ getD text i 0 ∷ slice (i + 1) end text
+part-on text i end h l = rw add-one (slice-cons i end text 0 h l)
+
+pub part-ends : (text : List ℕ) (i end : ℕ) → end ≤ i → slice i end text ≡ []
+part-ends text i end h = drop-of-length-le (take end text) {i = i} (simp length-take (omega arith))
 
 -- ---- plain ASCII letters
 pub plain-on : (text : List ℕ) (i : ℕ) → i < length text → not (isAscii (getD text i 0)) ≡ false → plainFrom text i ≡ getD text i 0 ∷ plainFrom text (i + 1)

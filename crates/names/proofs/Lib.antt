@@ -4,6 +4,7 @@ mod Numbered
 mod Counting
 mod Letters
 mod Hashing
+mod Turns
 mod Searching
 mod Table
 mod Before

@@ -8,7 +8,7 @@ use lib.Seq.{take-all, take-append-le, drop-append-le}
 use lib.Dec.{leb}
 use native.Mathlib.Nat.{mod-eq-of-lt}
 use native.Mathlib.Omega.{arith}
-use borrow.Author.Tests.{le-leb, lt-leb}
+use borrow.Author.Tests.{le-leb, lt-leb, leb-true}
 use Rattle.names.specs.Names.{pack, headOf, tailOf, Bytes, Packs}
 use Rattle.names.specs.declared.Packed.{Packed}
 
@@ -33,10 +33,6 @@ pack-room (a ∷ b ∷ c ∷ d ∷ e ∷ f ∷ g ∷ s) h l = absurd (omega arit
 pack-on : (s : List ℕ) (b : ℕ) → Bytes s → length s < 7 → pack 1 s % 0x100000000000000 * 256 + b ≡ pack 1 (s ++ b ∷ [])
 pack-on s b h l = let e = mod-eq-of-lt (pack-room s h l) in let o = pack-one 1 s b in omega arith
 
-pub bytes-one : (s : List ℕ) (b : ℕ) → Bytes s → b < 256 → Bytes (s ++ b ∷ [])
-bytes-one [] b h l = (l, tt)
-bytes-one (a ∷ s) b h l = (h .0, bytes-one s b (h .1) l)
-
 bytes-drop : (n : ℕ) (s : List ℕ) → Bytes s → Bytes (drop n s)
 bytes-drop zero s h = h
 bytes-drop (suc n) [] h = h
@@ -46,6 +42,15 @@ bytes-take : (n : ℕ) (s : List ℕ) → Bytes s → Bytes (take n s)
 bytes-take zero s h = tt
 bytes-take (suc n) [] h = tt
 bytes-take (suc n) (b ∷ s) h = (h .0, bytes-take n s (h .1))
+
+bytes-one : (n : ℕ) (s : List ℕ) (b : ℕ) → Bytes (take n s) → b < 256 → Bytes (take n (s ++ b ∷ []))
+bytes-one zero s b h l = tt
+bytes-one (suc n) [] b h l = (l, bytes-take n [] tt)
+bytes-one (suc n) (a ∷ s) b h l = (h .0, bytes-one n s b (h .1) l)
+
+-- Of at most fourteen bytes the first fourteen are all.
+bytes-all : (s : List ℕ) → Bytes (take 14 s) → length s ≤ 14 → Bytes s
+bytes-all s h l = rw (take-all 14 s l) at h
 
 length-one : (s : List ℕ) (b : ℕ) → length (s ++ b ∷ []) ≡ length s + 1
 length-one s b = length-append s (b ∷ [])
@@ -77,9 +82,9 @@ module _ (p : Packed) (n b : ℕ) (small : b < 256) (name : List ℕ) (k : Packs
       let whole = take-all 7 name (omega (arith, size)) in
       let all = take-all 7 (name ++ b ∷ []) (omega (arith, longer)) in
       record {
-        head = rw (e, k .head, whole, all) (pack-on name b (k .small) (omega (arith, size)));
+        head = rw (e, k .head, whole, all) (pack-on name b (bytes-all name (k .small) (omega (arith, size))) (omega (arith, size)));
         tail = k .tail ∙ tail-none name (omega (arith, size)) ∙ sym (tail-none (name ++ b ∷ []) (omega (arith, longer)));
-        small = bytes-one name b (k .small) small;
+        small = bytes-one 14 name b (k .small) small;
       }
 
   pub letter-second : (w : ℕ) → w ≡ b → 7 ≤ n → n < 14 → Packs (name ++ b ∷ []) (record { head = p .head; tail = p .tail % 0x100000000000000 * 256 + w })
@@ -91,8 +96,8 @@ module _ (p : Packed) (n b : ℕ) (small : b < 256) (name : List ℕ) (k : Packs
         head = k .head ∙ rw (take-append-le 7 name (b ∷ []) far);
         tail =
             rw (e, k .tail, tail-some name (omega (arith, size)), tail-some (name ++ b ∷ []) (omega (arith, longer)), drop-append-le 7 name (b ∷ []) far)
-            (pack-on (drop 7 name) b (bytes-drop 7 name (k .small)) few);
-        small = bytes-one name b (k .small) small;
+            (pack-on (drop 7 name) b (bytes-drop 7 name (bytes-all name (k .small) (omega (arith, size)))) few);
+        small = bytes-one 14 name b (k .small) small;
       }
 
   pub letter-over : 14 ≤ n → Packs (name ++ b ∷ []) (record { head = p .head; tail = 0 })
@@ -102,8 +107,18 @@ module _ (p : Packed) (n b : ℕ) (small : b < 256) (name : List ℕ) (k : Packs
       record {
         head = k .head ∙ rw (take-append-le 7 name (b ∷ []) far);
         tail = sym (tail-over (name ++ b ∷ []) (omega (arith, longer)));
-        small = bytes-one name b (k .small) small;
+        small = bytes-one 14 name b (k .small) small;
       }
+
+-- What comes behind the fifteenth letter changes nothing.
+pub packs-over : {name : List ℕ} {p : Packed} (more : List ℕ) → Packs name p → 14 < length name → Packs (name ++ more) p
+unfolding headOf
+packs-over {name} more k h =
+    record {
+      head = k .head ∙ rw (take-append-le 7 name more (omega arith));
+      tail = k .tail ∙ tail-over name h ∙ sym (tail-over (name ++ more) (simp length-append (omega arith)));
+      small = rw (take-append-le 14 name more (omega arith)) (k .small);
+    }
 
 -- ---- apart: the same numbers are of the same bytes. From the last byte on:
 packed : List ℕ → ℕ
@@ -158,15 +173,19 @@ unfolding packed over
 pack-some s = omega (arith, pack-over s [], packed-some (over s []))
 
 -- Of names of which one has at most fourteen bytes.
-pub names-apart : (s t : List ℕ) → Bytes s → Bytes t → length t ≤ 14 → headOf s ≡ headOf t → tailOf s ≡ tailOf t → s ≡ t
+pub names-apart : (s t : List ℕ) → Bytes (take 14 s) → Bytes t → length t ≤ 14 → headOf s ≡ headOf t → tailOf s ≡ tailOf t → s ≡ t
 unfolding headOf tailOf
 names-apart s t h k l e f = go (leb (length s) 14) refl
   where
     go : (b : Bool) → leb (length s) 14 ≡ b → s ≡ t
     go true z =
+        let all = bytes-all s h (leb-true _ _ z) in
         let last : pack 1 (drop 7 s) ≡ pack 1 (drop 7 t) = rw (z, tail-some t l) at f in
         sym (take-append-drop 7 s)
-        ∙ rw (pack-apart (take 7 s) (take 7 t) (bytes-take 7 s h) (bytes-take 7 t k) e, pack-apart (drop 7 s) (drop 7 t) (bytes-drop 7 s h) (bytes-drop 7 t k) last)
+        ∙ rw (
+          pack-apart (take 7 s) (take 7 t) (bytes-take 7 s all) (bytes-take 7 t k) e,
+          pack-apart (drop 7 s) (drop 7 t) (bytes-drop 7 s all) (bytes-drop 7 t k) last,
+        )
         (take-append-drop 7 t)
     go false z =
         let none : 0 ≡ pack 1 (drop 7 t) = rw (z, tail-some t l) at f in

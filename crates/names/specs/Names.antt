@@ -57,10 +57,11 @@ abbrev pub Bytes : List ℕ → Type 0
 Bytes [] = Unit
 Bytes (b ∷ s) = (b < 256) × Bytes s
 
+-- Of a longer name no more is told than of its first fourteen.
 pub record Packs (name : List ℕ) (p : Packed) : Type 0 where
   pub head : p .head ≡ headOf name
   pub tail : p .tail ≡ tailOf name
-  pub small : Bytes name
+  pub small : Bytes (take 14 name)
 
 -- The number of a name by its packed bytes.
 abbrev pub packedIn : List (List ℕ) → ℕ → ℕ → ℕ → ℕ

@@ -4,15 +4,16 @@ use scan::string as spelled;
 ghost use mathlib.Core.Path.{_≡_};
 ghost use mathlib.Core.Bool.{true};
 ghost use lib.ListN.{length, drop};
+ghost use lib.Seq.{slice};
 ghost use Rattle.moving.specs.Moving.{firstIn, valueOf};
 ghost use Rattle.moving.specs.Read.{decoded};
 ghost use Rattle.json.specs.Tree.{Place, Members, object, Moves};
 ghost use mathlib.Core.List.{List, [], _∷_, _++_};
-ghost use Prim.Native.Nat.{ℕ, _-_, _%_};
+ghost use Prim.Native.Nat.{ℕ, _-_, _%_, _≤_};
 ghost use Rattle.document.specs.Lookup.{has, unknown};
 ghost use Rattle.document.specs.Visit.{entriesOf};
 ghost use Rattle.document.specs.At.{At};
-ghost use Rattle.names.specs.Names.{indexOf, shortIndex, Packs, namesFrom, membersIn, Settles, Once, rowNames, isIn, isRow, standingOf, Tells, hashOn, hashOf, seedOf, firstSlot, Sought, stoodIn, seenOnce, seenAgain};
+ghost use Rattle.names.specs.Names.{indexOf, shortIndex, Packs, namesFrom, membersIn, Settles, Once, rowNames, isIn, isRow, standingOf, Tells, hashOn, hashFrom, hashOf, seedOf, firstSlot, Sought, stoodIn, seenOnce, seenAgain};
 
 pub const T: usize = 0;
 
@@ -117,20 +118,48 @@ fn with_letter(p: Packed, n: usize, b: u8) -> Packed
     }
 }
 
+// The letters of the text from `from` up to `end`, behind n. Those behind the fifteenth change nothing.
+fn with_letters(p: Packed, n: usize, text: &[u8], from: usize, end: usize) -> Packed
+    requires { ⌜ end - from ≤ length (now text) - from ⌝ }
+    ensures { λ r. ⌜ ((name : List ℕ) → Packs name p → length name ≡ n → Packs (name ++ slice from end (now (text .entry))) r) ⌝ }
+{
+    let mut q = p;
+    let mut k = n;
+    let mut i = from;
+    while i < end {
+        q = with_letter(q, k, text[i]);
+        if 14 <= k {
+            return q;
+        }
+        k += 1;
+        i += 1;
+    }
+    q
+}
+
 fn packed_decoded(text: &[u8], quote: usize) -> Packed
     ensures { λ r. ⌜ Packs (decoded (drop quote (now (text .entry)))) r ⌝ }
 {
     let mut p = no_letter();
     let mut n: usize = 0;
-    let mut c = characters::start(text, quote);
+    let mut s = characters::spot_at(characters::behind(text, quote));
     loop {
-        let next = characters::next(text, c);
-        if !next.some {
+        let end = characters::run_end(text, s);
+        p = with_letters(p, n, text, s.at, end);
+        n += end - s.at;
+        let next = characters::next_bytes(text, characters::behind_run(s, end));
+        let out = next.out;
+        let m = out.n;
+        if m == 0 {
             return p;
         }
-        p = with_letter(p, n, next.byte);
-        c = next.cursor;
-        n += 1;
+        let bytes = out.bytes;
+        p = with_letters(p, n, &bytes, 0, m);
+        n += m;
+        if 14 < n {
+            return p;
+        }
+        s = next.spot;
     }
 }
 
@@ -310,18 +339,37 @@ fn start_of(h: u64) -> usize
     (h % 8053) as usize
 }
 
+// The bytes of the text from `from` up to `end`, behind those that make h.
+fn hash_all(seed: u64, h: u64, text: &[u8], from: usize, end: usize) -> u64
+    requires { ⌜ end - from ≤ length (now text) - from ⌝ }
+    ensures { λ r. ⌜ r ≡ hashFrom seed h (slice from end (now (text .entry))) ⌝ }
+{
+    let mut g = h;
+    let mut i = from;
+    while i < end {
+        g = hash_on(seed, g, text[i]);
+        i += 1;
+    }
+    g
+}
+
 fn start_decoded(text: &[u8], quote: usize, seed: u64) -> usize
     ensures { λ r. ⌜ r ≡ firstSlot seed (decoded (drop quote (now (text .entry)))) ⌝ }
 {
     let mut h: u64 = 0;
-    let mut c = characters::start(text, quote);
+    let mut s = characters::spot_at(characters::behind(text, quote));
     loop {
-        let next = characters::next(text, c);
-        if !next.some {
+        let end = characters::run_end(text, s);
+        h = hash_all(seed, h, text, s.at, end);
+        let next = characters::next_bytes(text, characters::behind_run(s, end));
+        let out = next.out;
+        let n = out.n;
+        if n == 0 {
             return start_of(h);
         }
-        h = hash_on(seed, h, next.byte);
-        c = next.cursor;
+        let bytes = out.bytes;
+        h = hash_all(seed, h, &bytes, 0, n);
+        s = next.spot;
     }
 }
 

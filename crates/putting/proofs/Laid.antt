@@ -2,12 +2,13 @@
 use mathlib.Core.Path.{_≡_, refl, ap, sym, _∙_}
 use mathlib.Core.List.{List, [], _∷_, _++_, append-assoc, append-cancel-right}
 use mathlib.Core.Bool.{Bool, true, false, cond}
-use Prim.Native.Nat.{ℕ, suc, _+_, _≤_, min}
+use Prim.Native.Nat.{ℕ, suc, _+_, _≤_, _<_, min}
 use native.Mathlib.Omega.{arith}
 use borrow.Author.Tests.{leb-true, leb-false}
 use lib.Dec.{leb}
-use lib.ListN.{length, set, length-set, length-append}
+use lib.ListN.{length, drop, getD, set, length-set, length-append, drop-of-length-le}
 use lib.Seq.{sets, length-sets, set-out}
+use Rattle.json.proofs.Moves.{byte-here}
 use Rattle.json.proofs.Stores.{sets-append}
 use Rattle.putting.specs.Puts.{greatestPlace, upTo, Puts}
 
@@ -29,6 +30,24 @@ sets-stopped l a xs h = go (leb a greatestPlace) refl
     go : (b : Bool) → leb a greatestPlace ≡ b → sets l (cond b a greatestPlace) xs ≡ sets l a xs
     go true e = refl
     go false e = sets-beyond l greatestPlace xs h ∙ sym (sets-beyond l a xs (omega (arith, leb-false a greatestPlace e)))
+
+-- Bytes stored one by one: the first of those that are left, and none.
+pub sets-next : (l xs : List ℕ) (from i : ℕ) → i < length xs → sets (set l (from + i) (getD xs i 0)) (from + (i + 1)) (drop (i + 1) xs) ≡ sets l (from + i) (drop i xs)
+sets-next l xs from i h =
+    let n : from + (i + 1) ≡ suc (from + i) = omega arith in
+    ap (λ (k : ℕ). sets (set l (from + i) (getD xs i 0)) k (drop (i + 1) xs)) n ∙ ap (sets l (from + i)) (sym (byte-here xs i h))
+
+pub sets-over : (l xs : List ℕ) (at i : ℕ) → length xs ≤ i → l ≡ sets l at (drop i xs)
+sets-over l xs at i h = ap (sets l at) (sym (drop-of-length-le xs h))
+
+-- Bytes that all have room.
+pub puts-room : {before after : List ℕ} (from : ℕ) (bytes : List ℕ) → from + length bytes ≤ greatestPlace → after ≡ sets before from bytes → (k : List ℕ) → Puts before from (bytes ++ k) k (from + length bytes) after
+puts-room from bytes h e k = record {
+  bytes = bytes;
+  in-front = refl;
+  place = λ _. omega (arith, up-to (from + length bytes));
+  laid = λ _ _. e;
+}
 
 pub puts-none : (buffer : List ℕ) (from : ℕ) (text : List ℕ) → Puts buffer from text text from buffer
 puts-none buffer from text = record {
@@ -54,6 +73,10 @@ puts-then {before} {from} {text} {mid} {rest} {r} {s} {between} {after} p q =
           ∙ rw (first, p .place h) (sets-stopped (sets before from xs) (from + length xs) ys fits)
           ∙ sym (sets-append xs ys before from);
     }
+
+-- The place behind is told by a number too.
+pub puts-near : {before : List ℕ} {from : ℕ} {text rest : List ℕ} {r : ℕ} {after : List ℕ} → Puts before from text rest r after → from ≤ greatestPlace → r ≤ greatestPlace
+puts-near {from = from} p h = omega (arith, p .place h, up-to (from + length (p .bytes)))
 
 -- The same text, said in another way.
 pub puts-as : {before : List ℕ} {from : ℕ} {text other rest : List ℕ} {r : ℕ} {after : List ℕ} → text ≡ other → Puts before from other rest r after → Puts before from text rest r after

@@ -1,6 +1,6 @@
 -- The table of the types that may stand under each parent.
-use Prim.Native.Nat.{ℕ, zero, suc, _+_, _*_, _<_, _≤_}
-use mathlib.Core.Path.{_≡_, refl, ap, _∙_}
+use Prim.Native.Nat.{ℕ, zero, suc, _<_, _≤_}
+use mathlib.Core.Path.{_≡_, refl, sym, ap, _∙_}
 use mathlib.Core.List.{List, [], _∷_}
 use mathlib.Core.Bool.{Bool, true, false, cond, not, _&&_, _||_, false≢true}
 use native.Mathlib.Omega.{arith}
@@ -37,21 +37,12 @@ same-true true false h = absurd (false≢true h)
 same-true false true h = absurd (false≢true h)
 same-true false false h = refl
 
--- The code's table: a row a parent, types 0 to 6.
-abbrev allowed : List ℕ
-allowed =
-    0 ∷ 1 ∷ 1 ∷ 1 ∷ 0 ∷ 0 ∷ 0
-    ∷ 0 ∷ 1 ∷ 1 ∷ 1 ∷ 0 ∷ 0 ∷ 0
-    ∷ 0 ∷ 1 ∷ 1 ∷ 1 ∷ 0 ∷ 0 ∷ 1
-    ∷ 0 ∷ 1 ∷ 1 ∷ 1 ∷ 1 ∷ 0 ∷ 1
-    ∷ 0 ∷ 1 ∷ 1 ∷ 1 ∷ 0 ∷ 1 ∷ 1 ∷ []
+-- A row of the code, types 0 to 6, has the types under a parent: one computed test.
+abbrev right : List ℕ → ℕ → ℕ → Bool
+right row parent kind = same (eqb (getD row kind 0) 1) (among kind (typesUnder parent))
 
-abbrev right : ℕ → ℕ → Bool
-right parent kind = same (eqb (getD allowed (parent * 7 + kind) 0) 1) (among kind (typesUnder parent))
-
-pub allowed-right : (parent kind : ℕ) → parent < 5 → kind ≤ 6 → eqb (getD allowed (parent * 7 + kind) 0) 1 ≡ among kind (typesUnder parent)
-allowed-right parent kind h k =
-    same-true _ _ (below 7 (right parent) (below 5 (λ p. all-below 7 (right p)) refl parent h) kind (omega arith))
+pub row-right : (row : List ℕ) (p : ℕ) → all-below 7 (right row p) ≡ true → (parent kind : ℕ) → parent ≡ p → kind ≤ 6 → eqb (getD row kind 0) 1 ≡ among kind (typesUnder parent)
+row-right row p t parent kind e h = same-true _ _ (below 7 (right row p) t kind (omega arith)) ∙ ap (λ (n : ℕ). among kind (typesUnder n)) (sym e)
 
 -- The types under a parent lie between two numbers.
 abbrev within : ℕ → ℕ → List ℕ → Bool

@@ -16,43 +16,15 @@ pub const UNDER_WEEKS: usize = 3;
 
 pub const UNDER_MONTHS: usize = 4;
 
-const ALLOWED: [u8; 35] = [
-    0,
-    1,
-    1,
-    1,
-    0,
-    0,
-    0, //
-    0,
-    1,
-    1,
-    1,
-    0,
-    0,
-    0, //
-    0,
-    1,
-    1,
-    1,
-    0,
-    0,
-    1, //
-    0,
-    1,
-    1,
-    1,
-    1,
-    0,
-    1, //
-    0,
-    1,
-    1,
-    1,
-    0,
-    1,
-    1, //
-];
+const SINGLE: [u8; 7] = [0, 1, 1, 1, 0, 0, 0];
+
+const DAYS: [u8; 7] = [0, 1, 1, 1, 0, 0, 0];
+
+const CYCLIC: [u8; 7] = [0, 1, 1, 1, 0, 0, 1];
+
+const WEEKS: [u8; 7] = [0, 1, 1, 1, 1, 0, 1];
+
+const MONTHS: [u8; 7] = [0, 1, 1, 1, 0, 1, 1];
 
 pub fn is_allowed(parent: usize, kind: u64) -> bool
     ensures { λ r. ⌜ r ≡ among kind (typesUnder parent) ⌝ }
@@ -60,11 +32,16 @@ pub fn is_allowed(parent: usize, kind: u64) -> bool
     if 6 < kind {
         return false;
     }
-    if UNDER_MONTHS < parent {
-        return false;
+    let k = kind as usize;
+    // one row is laid on the stack at a look, not all
+    match parent {
+        0 => SINGLE[k] == 1,
+        1 => DAYS[k] == 1,
+        2 => CYCLIC[k] == 1,
+        3 => WEEKS[k] == 1,
+        4 => MONTHS[k] == 1,
+        _ => false,
     }
-    let i = parent * 7 + kind as usize;
-    ALLOWED[i] == 1
 }
 
 // The row of the types that may stand under Cyclic, by its unit: 5 is the week and 6 the month.

@@ -1,12 +1,15 @@
--- Tests of a hexadecimal digit, by what it counts.
-use Prim.Native.Nat.{ℕ, zero, suc, _<_, _/_}
+-- Tests of a byte that say the same of each: of a hexadecimal digit by what it counts, of plain ASCII.
+use Prim.Native.Nat.{ℕ, zero, suc, _+_, _*_, _<_, _/_}
 use mathlib.Core.Path.{_≡_, refl, sym}
-use mathlib.Core.Bool.{Bool, true, false, _&&_, _||_}
+use mathlib.Core.Bool.{Bool, true, false, not, cond, _&&_, _||_}
 use lib.Dec.{eqb, leb, ltb}
-use borrow.Author.Tests.{ne-eqb}
+use borrow.Author.Tests.{ne-eqb, ltb-true}
+use native.Mathlib.Nat.{mod-eq-of-lt}
 use native.Mathlib.Omega.{arith}
 use native.Mathlib.Decide.{decLt}
 use Rattle.json.specs.Byte.{digit, isHex, isD, is8ToB, isCToF}
+use Rattle.json.specs.Rows.{look}
+use Rattle.json.specs.String.{isAscii, oneMore}
 use Rattle.json.proofs.Truth.{and-left, and-right}
 
 abbrev same : Bool → Bool → Bool
@@ -49,3 +52,24 @@ to-b-counts = agreed (λ b. eqb (digit b / 4) 2) is8ToB 256 refl
 pub to-f-counts : (b : ℕ) → b < 256 → leb 12 (digit b) ≡ isCToF b
 unfolding digit isCToF
 to-f-counts = agreed (λ b. leb 12 (digit b)) isCToF 256 refl
+
+pub ascii-tests : (b : ℕ) → b < 256 → (((leb 32 b && ltb b 128) && not (eqb b 34)) && not (eqb b 92)) ≡ isAscii b
+unfolding isAscii
+ascii-tests = agreed (λ b. ((leb 32 b && ltb b 128) && not (eqb b 34)) && not (eqb b 92)) isAscii 256 refl
+
+-- What digits count.
+small : (t : Bool) {x y : ℕ} → (t ≡ true → x < 16) → y < 16 → cond t x y < 16
+small true p q = p refl
+small false p q = q
+
+pub digit-small : (b : ℕ) → digit b < 16
+unfolding digit look
+digit-small b =
+    small (ltb b 48) (λ e. omega arith) (small (ltb b 58) (λ e. omega (arith, ltb-true b 58 e))
+    (small (ltb b 65) (λ e. omega arith) (small (ltb b 71) (λ e. omega (arith, ltb-true b 71 e))
+    (small (ltb b 97) (λ e. omega arith) (small (ltb b 103) (λ e. omega (arith, ltb-true b 103 e)) (omega arith))))))
+
+-- Up to eight digits are gathered whole.
+pub no-wrap : (v b : ℕ) → v < 0x10000000 → oneMore v b ≡ v * 16 + digit b
+unfolding oneMore
+no-wrap v b h = mod-eq-of-lt (omega (arith, digit-small b))

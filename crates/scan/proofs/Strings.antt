@@ -1,12 +1,15 @@
 -- Strings: what one byte does.
-use Prim.Native.Nat.{ℕ}
-use mathlib.Core.Path.{_≡_, refl}
+use Prim.Native.Nat.{ℕ, _≤_}
+use mathlib.Core.Path.{_≡_, refl, _∙_}
 use mathlib.Core.List.{List, [], _∷_}
 use mathlib.Core.Bool.{Bool, true, false, cond, false≢true}
 use lib.Dec.{ltb}
+use native.Mathlib.Omega.{arith}
 use Rattle.json.specs.Rows.{look}
 use Rattle.json.specs.String.{after, lead, isAscii}
-use Rattle.json.specs.Part.{past, torn, stringStop}
+use Rattle.json.specs.Part.{Stop, past, torn, stringStop, Stops}
+use Rattle.json.specs.declared.part.Part.{Part}
+use Rattle.json.specs.declared.part.Part.the-variants.{Past, Torn}
 use Rattle.json.specs.declared.string.Lead.{Lead}
 use Rattle.json.specs.declared.string.Lead.the-variants.{Control, Ascii, Quote, Backslash}
 use Rattle.json.specs.declared.string.InString.{InString}
@@ -56,3 +59,8 @@ is-plain b h = rw (ascii-lead b h)
 
 pub ascii-goes : (b : ℕ) → isAscii b ≡ true → (s : List ℕ) → stringStop Plain (b ∷ s) ≡ stringStop Plain s
 ascii-goes b h = string-goes Plain b (is-plain b h)
+
+-- Where a string stops is said of a place before.
+pub stops-from : (text : List ℕ) (at i : ℕ) (r : Part) {u w : Stop} → u ≡ w → at ≤ i → Stops text i w r → Stops text at u r
+stops-from text at i (Past e) p l s = (p ∙ s .0, omega (arith, s .1), s .2)
+stops-from text at i (Torn q) p l s = (p ∙ s .0, s .1)

@@ -1,16 +1,21 @@
 // The inside of a string, byte by byte, and where a string ends.
 use crate::byte;
+use crate::escape;
 use json::part::Part;
 use json::string::CharStep;
 use json::string::InString;
 use json::string::Lead;
 use json::string::Letter;
 ghost use mathlib.Core.Path.{_≡_};
-ghost use lib.ListN.{drop};
-ghost use Rattle.json.specs.Byte.{isHex, within as between};
+ghost use mathlib.Core.Bool.{true};
+ghost use Prim.Native.Nat.{_+_, _<_, _≤_};
+ghost use lib.ListN.{length, take, drop};
+ghost use Rattle.json.specs.Byte.{isHex, isTail, within as between};
 ghost use Rattle.json.specs.String.{lead, letter, after, afterLead, afterLetter, goIf, isAscii};
 ghost use Rattle.json.specs.Part.{stringStop, Stops, Skips};
-ghost use Rattle.json.specs.declared.string.InString.the-variants.{Plain};
+ghost use Rattle.json.specs.declared.string.InString.the-variants.{Plain, Tail1, Tail2};
+ghost use Rattle.scan.specs.Chars.{Char, Passes};
+ghost use Rattle.scan.specs.Reached.{Opened};
 
 pub fn lead_of(b: u8) -> Lead
     ensures { λ r. ⌜ r ≡ lead b ⌝ }
@@ -178,12 +183,44 @@ pub fn char_after(state: InString, b: u8) -> CharStep
     }
 }
 
-// The first place from `at` on whose byte is no plain ASCII character: most strings are nothing else.
-fn ascii_end(text: &[u8], at: usize) -> usize
+// Whether sixteen bytes are plain ASCII characters: looked at without a branch, so that a processor takes them at once.
+fn sixteen_ascii(text: &[u8], at: usize) -> bool
+    requires { ⌜ at + 16 ≤ length (now text) ⌝ }
+    ensures { λ r. ⌜ (r ≡ true → Skips (stringStop Plain) (now (text .entry)) at (at + 16)) ⌝ }
+{
+    let mut all = true;
+    let mut k = 0;
+    while k < 16 {
+        all = all & is_ascii(text[at + k]);
+        k += 1;
+    }
+    all
+}
+
+// Sixteen bytes at a time, as long as they are plain ASCII characters.
+fn sixteens_end(text: &[u8], at: usize) -> usize
     ensures { λ r. ⌜ Skips (stringStop Plain) (now (text .entry)) at r ⌝ }
 {
     let mut i = at;
     while i < text.len() {
+        if text.len() - i < 16 {
+            return i;
+        }
+        if !sixteen_ascii(text, i) {
+            return i;
+        }
+        i += 16;
+    }
+    i
+}
+
+// Byte by byte, and no further than `most`.
+fn ascii_upto(text: &[u8], at: usize, most: usize) -> usize
+    requires { ⌜ most ≤ length (now text) ⌝ }
+    ensures { λ r. ⌜ Skips (stringStop Plain) (now (text .entry)) at r ⌝ }
+{
+    let mut i = at;
+    while i < most {
         if is_ascii(text[i]) {
             i += 1;
         } else {
@@ -193,25 +230,99 @@ fn ascii_end(text: &[u8], at: usize) -> usize
     i
 }
 
+// The first place from `at` on whose byte is no plain ASCII character: most strings are nothing else, and short.
+fn ascii_end(text: &[u8], at: usize) -> usize
+    ensures { λ r. ⌜ Skips (stringStop Plain) (now (text .entry)) at r ⌝ }
+{
+    if text.len() <= at {
+        return at;
+    }
+    if text.len() - at < 16 {
+        return ascii_upto(text, at, text.len());
+    }
+    let i = ascii_upto(text, at, at + 16);
+    if i < at + 16 {
+        return i;
+    }
+    ascii_upto(text, sixteens_end(text, i), text.len())
+}
+
 pub fn is_ascii(b: u8) -> bool
     ensures { λ r. ⌜ r ≡ isAscii b ⌝ }
 {
-    if 128 <= b {
-        return false;
+    (32 <= b) & (b < 128) & (b != 34) & (b != 92)
+}
+
+fn is_tail(b: u8) -> bool
+    ensures { λ r. ⌜ r ≡ isTail b ⌝ }
+{
+    byte::within(0x80, 0xC0, b)
+}
+
+// Behind the first byte of a character of two.
+fn two_bytes(text: &[u8], at: usize) -> usize
+    requires { ⌜ Opened (now text) at 0x80 0xC0 Plain ⌝ }
+    ensures { λ r. ⌜ (0 < r → Char (now (text .entry)) at r (take r (drop at (now (text .entry))))) ⌝ }
+{
+    if text.len() - at < 2 {
+        return 0;
     }
-    if 93 <= b {
-        return true;
+    if is_tail(text[at + 1]) {
+        return 2;
     }
-    if 92 <= b {
-        return false;
+    0
+}
+
+// Of three, the second from lo on, and below hi.
+fn three_bytes(text: &[u8], at: usize, lo: u8, hi: u8) -> usize
+    requires { ⌜ Opened (now text) at lo hi Tail1 ⌝ }
+    ensures { λ r. ⌜ (0 < r → Char (now (text .entry)) at r (take r (drop at (now (text .entry))))) ⌝ }
+{
+    if text.len() - at < 3 {
+        return 0;
     }
-    if 35 <= b {
-        return true;
+    if byte::within(lo, hi, text[at + 1]) {
+        if is_tail(text[at + 2]) {
+            return 3;
+        }
     }
-    if 34 <= b {
-        return false;
+    0
+}
+
+fn four_bytes(text: &[u8], at: usize, lo: u8, hi: u8) -> usize
+    requires { ⌜ Opened (now text) at lo hi Tail2 ⌝ }
+    ensures { λ r. ⌜ (0 < r → Char (now (text .entry)) at r (take r (drop at (now (text .entry))))) ⌝ }
+{
+    if text.len() - at < 4 {
+        return 0;
     }
-    32 <= b
+    if byte::within(lo, hi, text[at + 1]) {
+        if is_tail(text[at + 2]) {
+            if is_tail(text[at + 3]) {
+                return 4;
+            }
+        }
+    }
+    0
+}
+
+// How many bytes the character outside ASCII at a place has; 0 where none stands there whole.
+pub fn wide_char(text: &[u8], at: usize) -> usize
+    ensures { λ r. ⌜ (0 < r → Char (now (text .entry)) at r (take r (drop at (now (text .entry))))) ⌝ }
+{
+    if text.len() <= at {
+        return 0;
+    }
+    match lead_of(text[at]) {
+        Lead::Two => two_bytes(text, at),
+        Lead::E0 => three_bytes(text, at, 0xA0, 0xC0),
+        Lead::Three => three_bytes(text, at, 0x80, 0xC0),
+        Lead::Ed => three_bytes(text, at, 0x80, 0xA0),
+        Lead::F0 => four_bytes(text, at, 0x90, 0xC0),
+        Lead::Four => four_bytes(text, at, 0x80, 0xC0),
+        Lead::F4 => four_bytes(text, at, 0x80, 0x90),
+        _ => 0,
+    }
 }
 
 fn ascii_skipped(text: &[u8], state: InString, at: usize) -> usize
@@ -223,17 +334,11 @@ fn ascii_skipped(text: &[u8], state: InString, at: usize) -> usize
     }
 }
 
-// The place behind the closing quote: `at` is behind the opening one.
-pub fn string_end(text: &[u8], at: usize) -> Part
+// From a place on where a character or the closing quote may stand, byte by byte through the states.
+fn states_end(text: &[u8], at: usize) -> Part
     ensures { λ r. ⌜ Stops (now (text .entry)) at (stringStop Plain (drop at (now (text .entry)))) r ⌝ }
 {
-    let mut i = ascii_end(text, at);
-    // Most strings are plain ASCII up to their closing quote: the state is not needed.
-    if i < text.len() {
-        if text[i] == b'"' {
-            return Part::Past(i + 1);
-        }
-    }
+    let mut i = at;
     let mut state = InString::Plain;
     while i < text.len() {
         match char_after(state, text[i]) {
@@ -246,4 +351,33 @@ pub fn string_end(text: &[u8], at: usize) -> Part
         }
     }
     Part::Torn(text.len())
+}
+
+// How many bytes the character at a place has where it is not plain ASCII; 0 where none stands there whole.
+fn odd_char(text: &[u8], at: usize) -> usize
+    ensures { λ r. ⌜ (0 < r → Passes (now (text .entry)) at r) ⌝ }
+{
+    let n = wide_char(text, at);
+    if 0 < n {
+        return n;
+    }
+    escape::width(escape::escape_at(text, at))
+}
+
+// The place behind the closing quote: `at` is behind the opening one.
+pub fn string_end(text: &[u8], at: usize) -> Part
+    ensures { λ r. ⌜ Stops (now (text .entry)) at (stringStop Plain (drop at (now (text .entry)))) r ⌝ }
+{
+    let mut i = ascii_end(text, at);
+    while i < text.len() {
+        if text[i] == b'"' {
+            return Part::Past(i + 1);
+        }
+        let n = odd_char(text, i);
+        if n == 0 {
+            return states_end(text, i);
+        }
+        i = ascii_end(text, i + n);
+    }
+    states_end(text, i)
 }

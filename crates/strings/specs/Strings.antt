@@ -1,20 +1,22 @@
 -- Strings of a walked text, laid by their decoded bytes (`decoded` of Read.antt) into a buffer.
-use Prim.Native.Nat.{ℕ, _+_, _-_, _≤_}
-use mathlib.Core.Path.{_≡_}
-use mathlib.Core.List.{List, _++_}
+use Prim.Native.Nat.{ℕ, _+_}
+use mathlib.Core.List.{List, [], _∷_}
 use mathlib.Core.Bool.{Bool, cond}
 use lib.ListN.{length}
-use lib.Seq.{sets, slice}
+use lib.Seq.{sets}
 use lib.Dec.{leb}
-use Rattle.characters.specs.Characters.{plainFrom}
+use Rattle.json.specs.Byte.{utf8}
+use Rattle.json.specs.String.{point}
+use Rattle.scan.specs.declared.escape.Escape.{Escape}
+use Rattle.scan.specs.declared.escape.Escape.the-variants as E
 use Rattle.strings.specs.declared.Laid.{Laid}
 use Rattle.strings.specs.declared.Laid.the-variants.{Behind, NoRoom}
 
--- From `at` up to `i` the string's bytes are those of the text: the rest is to be decoded from there.
-pub record Run (text : List ℕ) (at i : ℕ) : Type 0 where
-  pub ahead : at ≤ i
-  pub inside : i - at ≤ length text - at
-  pub bytes : plainFrom text at ≡ slice at i text ++ plainFrom text i
+-- What an escape stands for.
+abbrev pub meantBy : Escape → List ℕ
+meantBy E.None = []
+meantBy (E.Letter m) = m ∷ []
+meantBy (E.Digits v n) = utf8 (point v)
 
 -- Whether so many bytes have room in a buffer from `to` on.
 abbrev pub fits : List ℕ → ℕ → List ℕ → Bool

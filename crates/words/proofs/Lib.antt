@@ -2,3 +2,4 @@
 mod Sets
 mod Anew
 pub mod Rowed
+pub mod OneTable

@@ -1,3 +1,4 @@
+pub mod ByWords
 pub mod Laid
 pub mod Laying
 pub mod Standing

@@ -4,3 +4,4 @@ mod HeadTexts
 mod Printed
 mod PrintedDetail
 pub mod Written
+mod WordsWritten

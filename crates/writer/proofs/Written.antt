@@ -2,14 +2,15 @@
 use mathlib.Core.Path.{_≡_, refl, ap, sym, subst, _∙_}
 use mathlib.Core.List.{List, [], _++_, append-nil}
 use mathlib.Core.Bool.{Bool, true, false, cond}
-use Prim.Native.Nat.{ℕ, _+_, _≤_, _<_}
+use Prim.Native.Nat.{ℕ, _+_, _*_, _≤_, _<_}
 use native.Mathlib.Omega.{arith}
 use lib.Dec.{leb}
 use lib.ListN.{length, drop}
 use lib.Seq.{sets-eq}
 use borrow.Author.Tests.{le-leb, lt-leb}
 use Rattle.json.specs.Rows.{choose}
-use Rattle.document.specs.Valid.{isUse, valid}
+use Rattle.document.specs.Valid.{isUse, detailRecords, strings}
+use Rattle.document.specs.Table.{tableOf}
 use Rattle.document.specs.Words.{allWords, rows}
 use Rattle.document.specs.Untable.{posologyOf}
 use Rattle.document.specs.Plain.{plain, detailTree}
@@ -22,7 +23,7 @@ use Rattle.document.specs.declared.table.Writing.{Writing}
 use Rattle.document.specs.declared.table.Writing.the-variants.{Written, Refused}
 use Rattle.document.proofs.Untables.{detail-append}
 use Rattle.document.proofs.Untabled.{bytesOf, strings-append}
-use Rattle.document.proofs.Lengths.{plain-at-most}
+use Rattle.document.proofs.Lengths.{plain-length}
 use Rattle.checking.specs.Readable.{PieceAt, absent, present}
 use Rattle.checking.proofs.Read.{readable-laid}
 use Rattle.document.proofs.ValidParts.{valid-parts}
@@ -57,6 +58,9 @@ fits {bytes} {before} e h l =
     let f = fitting-by bytes before true (le-leb (length bytes) (length before) (omega arith)) in
     record { answer = ap ends e ∙ sym (ap writeValues f); left = l ∙ sym (ap (λ w. bufferAfter w before) f) }
 
+pub put-fits : {before text after : List ℕ} {r : ℕ} → Puts before 0 text [] r after → length before ≤ greatestPlace → length text ≤ length before → Fits text before (Written r) after
+put-fits p g h = let n = measured p (omega arith) in fits n (omega arith) (stored p g h)
+
 pub fits-not : {bytes before : List ℕ} {n : ℕ} → n ≡ length bytes → length before < n → Fits bytes before (Refused 19 n) before
 fits-not {bytes} {before} e h =
     let f = fitting-by bytes before false (lt-leb (length bytes) (length before) (omega arith)) in
@@ -69,7 +73,7 @@ piece-within (present p e) = omega (arith, p .starts, p .fits)
 module _ (purpose : ℕ) (t : Table) (buffer : List ℕ) (n : length (t .records) ≡ 64) (h : readable purpose t buffer ≡ true) where
   pub writable : Writable buffer (t .head)
   writable =
-      let r = readable-laid purpose t (rows (allWords (t .records))) buffer refl n h in
+      let r = readable-laid purpose t buffer n h in
       let ps = r .1 .pieces in
       record { from = r .0 .from; to = r .0 .to; meal = r .0 .meal; unit = piece-within (ps .unit); instructions = piece-within (ps .instructions); roa = piece-within (ps .roa); moa = piece-within (ps .moa) }
 
@@ -86,11 +90,14 @@ module _ (purpose : ℕ) (t : Table) (buffer : List ℕ) (n : length (t .records
   unfolding posologyOf
   plainly = sym (head-plain (posologyOf t buffer) (t .head) buffer [] refl refl refl refl refl refl refl refl (writable .from) (writable .to))
 
-  pub short : length (headFields buffer (t .head) (detailTree (posologyOf t buffer .po)) []) ≤ greatestPlace
+  pub short : length (headFields buffer (t .head) (detailTree (posologyOf t buffer .po)) []) ≤ 6 * t .text + 128 * t .count + 256
+  unfolding tableOf
   short =
       let s = readable-stands purpose t buffer n h in
-      let most = subst (λ q. length (plain q) ≤ 20736 + length {A = ℕ} []) (sym (s .read)) (plain-at-most purpose (s .is) [] (s .valid) (s .fits)) in
-      let e = ap length plainly in
+      let most = plain-length purpose (s .is) (s .valid) in
+      let e = ap length (plainly ∙ ap plain (s .read)) in
+      let text : t .text ≡ length (strings (s .is)) = ap (λ (u : Table). u .text) (s .table) in
+      let count : t .count ≡ detailRecords (s .is .po) = ap (λ (u : Table). u .count) (s .table) in
       omega arith
 
 -- What is written where the use and the table are right or not.

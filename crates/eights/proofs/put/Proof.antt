@@ -1,76 +1,124 @@
--- A number stored byte by byte: what is still to be stored, stored, is the whole number stored.
-use Prim.Native.Nat.{ℕ, suc, _+_, _-_, _/_, _%_, _≤_}
-use mathlib.Core.Path.{_≡_, refl, ap, sym, _∙_}
-use mathlib.Core.List.{[]}
+-- A number stored byte by byte, in a straight line.
 use native.Mathlib.Omega.{arith}
 use borrow.Author.Needs.{needs}
-use lib.ListN.{length, set, length-set}
-use lib.Seq.{sets}
-use Rattle.eights.specs.Eights.{bytesOf}
-use Rattle.eights.proofs.Bytes.{byte-first}
+use lib.ListN.{length-set}
+use Rattle.eights.proofs.Straight.{eight-stores}
 use Rattle.eights.proofs.put.Statement.{statement}
 use Rattle.eights.proofs.put.Tie as tie
 
-abbrev Inv-loop : tie.InvT-loop
-Inv-loop bytes₀ at x left₀ k₀ bytes left k = (k ≤ 8) × (length bytes ≡ length bytes₀) × (sets bytes (at + k) (bytesOf (8 - k) left []) ≡ sets bytes₀ at (bytesOf 8 x []))
-
-abbrev μ-loop : tie.MeasureT-loop
-μ-loop bytes₀ at x left₀ k₀ bytes left k = 8 - k
-
-loop-holds : tie.Need-loop-holds Inv-loop μ-loop
-loop-holds c = (omega arith, refl, ap (λ (n : ℕ). sets (c .before .args .bytes .now) n (bytesOf 8 (c .before .args .x) [])) (omega arith))
-
-low-requires : tie.Need-low-requires Inv-loop μ-loop
+low-requires : tie.Need-low-requires
 low-requires c κs = search needs
 
-add-bytes : tie.Need-add-bytes Inv-loop μ-loop
-add-bytes c = omega arith
+slice-write-bytes : tie.Need-slice-write-bytes
+slice-write-bytes c = search needs
 
-slice-write-bytes : tie.Need-slice-write-bytes Inv-loop μ-loop
-slice-write-bytes c = omega arith
+low-requires-2 : tie.Need-low-requires-2
+low-requires-2 c κs = search needs
 
-add-k : tie.Need-add-k Inv-loop μ-loop
-add-k c = omega arith
+add-bytes : tie.Need-add-bytes
+add-bytes c = search needs
 
-loop-less : tie.Need-loop-less Inv-loop μ-loop
-loop-less c = omega arith
+slice-write-bytes-2 : tie.Need-slice-write-bytes-2
+slice-write-bytes-2 c = simp length-set (omega arith)
 
-loop-again : tie.Need-loop-again Inv-loop μ-loop
-loop-again c =
-    let s = c .before .before .before .before in
-    let l = c .before .before .loop in
-    let n : 8 - l .k ≡ suc (8 - (l .k + 1)) = omega arith in
-    let at : s .args .at + l .k + 1 ≡ s .args .at + (l .k + 1) = omega arith in (
-      omega arith,
-      length-set (l .bytes) (s .args .at + l .k) (c .low .result) ∙ l .inv .1,
-      ap (λ (b : ℕ). sets (set (l .bytes) (s .args .at + l .k) b) (s .args .at + (l .k + 1)) (bytesOf (8 - (l .k + 1)) (l .left / 256) [])) (c .low .ensures)
-          ∙ ap (λ (m : ℕ). sets (set (l .bytes) (s .args .at + l .k) (l .left % 256)) m (bytesOf (8 - (l .k + 1)) (l .left / 256) [])) (sym at)
-          ∙ sym (byte-first (8 - l .k) (8 - (l .k + 1)) (l .left) (l .bytes) (s .args .at + l .k) n) ∙ l .inv .2,
-    )
+low-requires-3 : tie.Need-low-requires-3
+low-requires-3 c κs = search needs
 
-same-length : tie.Need-same-length Inv-loop μ-loop
-same-length c = omega arith
+add-bytes-2 : tie.Need-add-bytes-2
+add-bytes-2 c = search needs
 
-returns : tie.Need-returns Inv-loop μ-loop
-unfolding bytesOf
+slice-write-bytes-3 : tie.Need-slice-write-bytes-3
+slice-write-bytes-3 c = simp length-set (omega arith)
+
+low-requires-4 : tie.Need-low-requires-4
+low-requires-4 c κs = search needs
+
+add-bytes-3 : tie.Need-add-bytes-3
+add-bytes-3 c = search needs
+
+slice-write-bytes-4 : tie.Need-slice-write-bytes-4
+slice-write-bytes-4 c = simp length-set (omega arith)
+
+low-requires-5 : tie.Need-low-requires-5
+low-requires-5 c κs = search needs
+
+add-bytes-4 : tie.Need-add-bytes-4
+add-bytes-4 c = search needs
+
+slice-write-bytes-5 : tie.Need-slice-write-bytes-5
+slice-write-bytes-5 c = simp length-set (omega arith)
+
+low-requires-6 : tie.Need-low-requires-6
+low-requires-6 c κs = search needs
+
+add-bytes-5 : tie.Need-add-bytes-5
+add-bytes-5 c = search needs
+
+slice-write-bytes-6 : tie.Need-slice-write-bytes-6
+slice-write-bytes-6 c = simp length-set (omega arith)
+
+low-requires-7 : tie.Need-low-requires-7
+low-requires-7 c κs = search needs
+
+add-bytes-6 : tie.Need-add-bytes-6
+add-bytes-6 c = search needs
+
+slice-write-bytes-7 : tie.Need-slice-write-bytes-7
+slice-write-bytes-7 c = simp length-set (omega arith)
+
+low-requires-8 : tie.Need-low-requires-8
+low-requires-8 c κs = search needs
+
+add-bytes-7 : tie.Need-add-bytes-7
+add-bytes-7 c = search needs
+
+slice-write-bytes-8 : tie.Need-slice-write-bytes-8
+slice-write-bytes-8 c = simp length-set (omega arith)
+
+same-length : tie.Need-same-length
+same-length c = search needs
+
+returns : tie.Need-returns
 returns c =
-    let s = c .before .before .before in
-    let l = c .before .loop in
-    let n : 8 - l .k ≡ 0 = omega arith in
-    ap (λ (m : ℕ). sets (l .bytes) (s .args .at + l .k) (bytesOf m (l .left) [])) (sym n) ∙ l .inv .2
+    let s = c .before .before .before .before .before .before .before .before .before in
+    rw (
+      c .low8 .ensures,
+      c .before .low7 .ensures,
+      c .before .before .low6 .ensures,
+      c .before .before .before .low5 .ensures,
+      c .before .before .before .before .low4 .ensures,
+      c .before .before .before .before .before .low3 .ensures,
+      c .before .before .before .before .before .before .low2 .ensures,
+      c .before .before .before .before .before .before .before .low .ensures,
+    )
+    (eight-stores (s .args .x) (s .args .bytes .now) (s .args .at))
 
 pub put-spec : {M : Type 1} → statement M
 put-spec =
     tie.close
     (tie.spec
-    Inv-loop
-    μ-loop
-    loop-holds
     low-requires
-    add-bytes
     slice-write-bytes
-    add-k
-    loop-less
-    loop-again
+    low-requires-2
+    add-bytes
+    slice-write-bytes-2
+    low-requires-3
+    add-bytes-2
+    slice-write-bytes-3
+    low-requires-4
+    add-bytes-3
+    slice-write-bytes-4
+    low-requires-5
+    add-bytes-4
+    slice-write-bytes-5
+    low-requires-6
+    add-bytes-5
+    slice-write-bytes-6
+    low-requires-7
+    add-bytes-6
+    slice-write-bytes-7
+    low-requires-8
+    add-bytes-7
+    slice-write-bytes-8
     same-length
     returns)

@@ -1,67 +1,118 @@
--- The letters given so far are packed, and the rest is ahead. The measure is what is ahead.
+-- The letters passed are packed, and those left at the spot are the rest. The measure is what is left.
+use mathlib.Core.Path.{_∙_}
 use lib.ListN.{length, drop}
 use native.Mathlib.Omega.{arith}
 use borrow.Author.Needs.{needs}
 use denote.Ref.{now}
 use Rattle.moving.specs.Read.{decoded}
-use Rattle.characters.specs.Characters.{ahead}
-use Rattle.characters.proofs.Ahead.{gives-one, gives-none, ahead-falls}
+use Rattle.characters.specs.Characters.{left}
+use Rattle.characters.proofs.Ahead.{left-length}
 use Rattle.characters.proofs.Lengths.{decoded-short}
-use Rattle.names.proofs.Letters.{Decodes, letters-none, letters-end, letters-few, letters-on}
+use Rattle.characters.proofs.Runs.{run-length}
+use Rattle.names.proofs.Letters.{Letters, letters-none, letters-end, letters-over, letters-few}
+use Rattle.names.proofs.Turns.{letters-run, letters-bytes, turn-falls}
 use Rattle.names.proofs.packed_decoded.Statement.{statement}
 use Rattle.names.proofs.packed_decoded.Tie as tie
 
 abbrev Inv-loop : tie.InvT-loop
-Inv-loop text quote p₀ n₀ c₀ p n c = Decodes text (decoded (drop quote text)) p n c
+Inv-loop text quote p₀ n₀ s₀ p n s = Letters (decoded (drop quote text)) p n (left text s)
 
 abbrev μ-loop : tie.MeasureT-loop
-μ-loop text quote p₀ n₀ c₀ p n c = length (ahead text c)
+μ-loop text quote p₀ n₀ s₀ p n s = length (left text s)
 
 no-letter-requires : tie.Need-no-letter-requires Inv-loop μ-loop
 no-letter-requires c κs = search needs
 
-start-requires : tie.Need-start-requires Inv-loop μ-loop
-start-requires c κs = search needs
+behind-requires : tie.Need-behind-requires Inv-loop μ-loop
+behind-requires c κs = search needs
+
+spot-at-requires : tie.Need-spot-at-requires Inv-loop μ-loop
+spot-at-requires c κs = search needs
 
 loop-holds : tie.Need-loop-holds Inv-loop μ-loop
-loop-holds c = record { sound = c .start .ensures .1; letters = letters-none (c .before .no-letter .ensures) (c .start .ensures .0) }
+loop-holds c = letters-none (c .before .before .no-letter .ensures) (c .spot-at .ensures _ ∙ c .before .behind .ensures)
 
-next-requires : tie.Need-next-requires Inv-loop μ-loop
-next-requires c κs = search needs
+run-end-requires : tie.Need-run-end-requires Inv-loop μ-loop
+run-end-requires c κs = search needs
 
-returns : tie.Need-returns Inv-loop μ-loop
-returns c =
-    let n = c .before .before in
-    letters-end (n .before .loop .inv .letters) (gives-none (n .next .ensures (n .before .loop .inv .sound)) (c .if1 .taken))
+with-letters-requires : tie.Need-with-letters-requires Inv-loop μ-loop
+with-letters-requires c κs = c .run-end .ensures .inside
 
-with-letter-requires : tie.Need-with-letter-requires Inv-loop μ-loop
-with-letter-requires c κs = search needs
+sub-n : tie.Need-sub-n Inv-loop μ-loop
+sub-n c = omega (arith, c .before .before .run-end .ensures .ahead)
 
 add-n : tie.Need-add-n Inv-loop μ-loop
 add-n c =
-    let t = c .before .before in
-    let n = t .before .before in
-    let s = n .before .before .before .before .before in
+    let r = c .before .before in
+    let s = r .before .before .before .before .before .before in
     omega (
       arith,
-      letters-few (n .before .loop .inv .letters),
-      ahead-falls (n .next .ensures (n .before .loop .inv .sound)) (t .if1 .left),
+      letters-few (r .before .loop .inv),
+      run-length (r .run-end .ensures),
       decoded-short (now (s .args .text)) (s .args .quote),
     )
 
+behind-run-requires : tie.Need-behind-run-requires Inv-loop μ-loop
+behind-run-requires c κs = search needs
+
+next-bytes-requires : tie.Need-next-bytes-requires Inv-loop μ-loop
+next-bytes-requires c κs = search needs
+
+returns : tie.Need-returns Inv-loop μ-loop
+returns c =
+    let b = c .before .before .before in
+    let w = b .before .before in
+    let r = w .before in
+    letters-end
+    (letters-run (r .run-end .ensures) (b .behind-run .ensures) (r .before .loop .inv) (w .with-letters .ensures))
+    (c .before .before .next-bytes .ensures .none (c .if1 .taken))
+
+-- the array's length stands in what the call tells, too far back for the search to come by it
+slice-aggregate-with-letters : tie.Need-slice-aggregate-with-letters Inv-loop μ-loop
+slice-aggregate-with-letters c = let bound = c .before .before .before .before .next-bytes .ok in search needs
+
+with-letters-requires-2 : tie.Need-with-letters-requires-2 Inv-loop μ-loop
+with-letters-requires-2 c κs = omega (arith, c .before .before .before .before .next-bytes .ensures .few)
+
+add-n-2 : tie.Need-add-n-2 Inv-loop μ-loop
+add-n-2 c =
+    let b = c .before .before .before .before .before .before in
+    let w = b .before .before in
+    let r = w .before in
+    let s = r .before .before .before .before .before .before in
+    omega (
+      arith,
+      letters-few (letters-run (r .run-end .ensures) (b .behind-run .ensures) (r .before .loop .inv) (w .with-letters .ensures)),
+      left-length (c .before .before .before .before .before .next-bytes .ensures),
+      decoded-short (now (s .args .text)) (s .args .quote),
+    )
+
+returns-2 : tie.Need-returns-2 Inv-loop μ-loop
+returns-2 c =
+    let n = c .before .before .before .before .before .before in
+    let w = n .before .before .before in
+    let r = w .before in
+    letters-over
+    (letters-bytes (n .next-bytes .ensures)
+    (letters-run (r .run-end .ensures) (n .before .behind-run .ensures) (r .before .loop .inv) (w .with-letters .ensures))
+    (c .before .with-letters2 .ensures))
+    (c .if2 .taken)
+
 loop-less : tie.Need-loop-less Inv-loop μ-loop
 loop-less c =
-    let t = c .before .before in
-    ahead-falls (t .before .before .next .ensures (t .before .before .before .loop .inv .sound)) (t .if1 .left)
+    let t = c .before .before .before .before .before in
+    let n = t .before .before in
+    let r = n .before .before .before .before in
+    turn-falls (r .run-end .ensures) (n .before .behind-run .ensures) (n .next-bytes .ensures) (t .if1 .left)
 
 loop-again : tie.Need-loop-again Inv-loop μ-loop
 loop-again c =
-    let t = c .before .before in
-    let n = t .before .before in
-    record {
-      sound = n .next .ensures (n .before .loop .inv .sound) .sound;
-      letters = letters-on (n .before .loop .inv .letters) (gives-one (n .next .ensures (n .before .loop .inv .sound)) (t .if1 .left)) (c .before .with-letter .ensures);
-    }
+    let n = c .before .before .before .before .before .before .before in
+    let w = n .before .before .before in
+    let r = w .before in
+    letters-bytes (n .next-bytes .ensures)
+    (letters-run (r .run-end .ensures) (n .before .behind-run .ensures) (r .before .loop .inv) (w .with-letters .ensures))
+    (c .before .before .with-letters2 .ensures)
 
 pub packed-decoded-spec : {M : Type 1} → statement M
 packed-decoded-spec =
@@ -70,11 +121,19 @@ packed-decoded-spec =
     Inv-loop
     μ-loop
     no-letter-requires
-    start-requires
+    behind-requires
+    spot-at-requires
     loop-holds
-    next-requires
-    returns
-    with-letter-requires
+    run-end-requires
+    with-letters-requires
+    sub-n
     add-n
+    behind-run-requires
+    next-bytes-requires
+    returns
+    slice-aggregate-with-letters
+    with-letters-requires-2
+    add-n-2
+    returns-2
     loop-less
     loop-again)

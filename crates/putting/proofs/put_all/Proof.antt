@@ -1,59 +1,44 @@
-use mathlib.Core.Path.{_≡_, refl}
-use mathlib.Core.List.{List, _++_}
-use Prim.Native.Nat.{ℕ, _-_, _≤_}
 use native.Mathlib.Omega.{arith}
-use lib.ListN.{length, drop, drop-of-length-le}
 use borrow.Author.Needs.{needs}
-use Rattle.json.proofs.Moves.{byte-here}
-use Rattle.putting.specs.Puts.{Puts}
-use Rattle.putting.proofs.Laid.{puts-none, puts-then}
+use Rattle.putting.proofs.Laid.{puts-room}
 use Rattle.putting.proofs.put_all.Statement.{statement}
 use Rattle.putting.proofs.put_all.Tie as tie
 
-abbrev Inv-loop : tie.InvT-loop
-Inv-loop out₀ from bytes at₀ i₀ out at i = (i ≤ length bytes) × (length out ≡ length out₀) × ((k : List ℕ) → Puts out₀ from (bytes ++ k) (drop i bytes ++ k) at out)
+sub-if2 : tie.Need-sub-if2
+sub-if2 c = search needs
 
-abbrev μ-loop : tie.MeasureT-loop
-μ-loop out₀ from bytes at₀ i₀ out at i = length bytes - i
+put-room-requires : tie.Need-put-room-requires
+put-room-requires c κs = search needs
 
-loop-holds : tie.Need-loop-holds Inv-loop μ-loop
-loop-holds c = (omega arith, refl, λ k. puts-none _ _ _)
+add-result : tie.Need-add-result
+add-result c = search needs
 
-shared-slice-read-put : tie.Need-shared-slice-read-put Inv-loop μ-loop
-shared-slice-read-put c = search needs
-
-put-requires : tie.Need-put-requires Inv-loop μ-loop
-put-requires c κs = search needs
-
-add-i : tie.Need-add-i Inv-loop μ-loop
-add-i c = search needs
-
-loop-less : tie.Need-loop-less Inv-loop μ-loop
-loop-less c = search needs
-
-loop-again : tie.Need-loop-again Inv-loop μ-loop
-loop-again c =
-    let put = c .before .before .put in
-    let l = c .before .before .before .before .before in
-    (search needs, search needs, λ k. puts-then (rw (byte-here _ _ (l .loop-test .taken)) at (l .before .loop .inv .2 k)) (put .ensures _))
-
-same-length : tie.Need-same-length Inv-loop μ-loop
+same-length : tie.Need-same-length
 same-length c = search needs
 
-returns : tie.Need-returns Inv-loop μ-loop
-returns c k = rw (drop-of-length-le _ (c .loop-test .left)) at (c .before .loop .inv .2 k)
+returns : tie.Need-returns
+returns c =
+    let s = c .before .before .before .before .before .before .before .before in
+    puts-room (s .args .from) (s .args .bytes .now) (omega (arith, c .before .before .before .before .if2 .taken, c .before .before .before .before .before .if1 .taken, s .good)) (c .before .before .put-room .ensures)
+
+put-each-requires : tie.Need-put-each-requires
+put-each-requires c κs = search needs
+
+same-length-2 : tie.Need-same-length-2
+same-length-2 c = search needs
+
+returns-2 : tie.Need-returns-2
+returns-2 c = search needs
 
 pub put-all-spec : {M : Type 1} → statement M
 put-all-spec =
     tie.close
     (tie.spec
-    Inv-loop
-    μ-loop
-    loop-holds
-    shared-slice-read-put
-    put-requires
-    add-i
-    loop-less
-    loop-again
+    sub-if2
+    put-room-requires
+    add-result
     same-length
-    returns)
+    returns
+    put-each-requires
+    same-length-2
+    returns-2)

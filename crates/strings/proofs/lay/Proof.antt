@@ -6,7 +6,7 @@ use lib.ListN.{length, drop}
 use denote.Ref.{now}
 use Rattle.moving.specs.Read.{decoded}
 use Rattle.characters.proofs.Lengths.{from-short}
-use Rattle.strings.proofs.Runs.{run-length}
+use Rattle.characters.proofs.Runs.{run-from-length}
 use Rattle.strings.proofs.Rooms.{no-room, room-for}
 use Rattle.strings.proofs.lay.Statement.{statement}
 use Rattle.strings.proofs.lay.Tie as tie
@@ -14,8 +14,8 @@ use Rattle.strings.proofs.lay.Tie as tie
 behind-requires : tie.Need-behind-requires
 behind-requires c κs = search needs
 
-ascii-end-requires : tie.Need-ascii-end-requires
-ascii-end-requires c κs = search needs
+plain-end-requires : tie.Need-plain-end-requires
+plain-end-requires c κs = search needs
 
 sub-n : tie.Need-sub-n
 sub-n c = search needs
@@ -26,13 +26,15 @@ rest-length-requires c κs = search needs
 add-n : tie.Need-add-n
 add-n c =
     let b = c .before .before in
-    omega (arith, run-length (c .before .ascii-end .ensures), from-short (now (b .before .before .before .args .text)) (b .behind .result))
+    let s = b .before .before .before in
+    omega (arith, run-from-length (c .before .plain-end .ensures), from-short (now (s .args .text)) (b .behind .result))
 
 returns : tie.Need-returns
 returns c =
     let b = c .before .before in
     let s = b .before .before .before .before in
-    no-room (now (s .args .buffer)) (s .args .to) (decoded (drop (s .args .quote) (now (s .args .text)))) (omega (arith, run-length (b .ascii-end .ensures), ap length (b .before .behind .ensures)))
+    no-room (now (s .args .buffer)) (s .args .to) (decoded (drop (s .args .quote) (now (s .args .text))))
+    (omega (arith, run-from-length (b .plain-end .ensures), ap length (b .before .behind .ensures)))
 
 sub-if2 : tie.Need-sub-if2
 sub-if2 c = search needs
@@ -41,12 +43,13 @@ returns-2 : tie.Need-returns-2
 returns-2 c =
     let b = c .before .before .before in
     let s = b .before .before .before .before in
-    no-room (now (s .args .buffer)) (s .args .to) (decoded (drop (s .args .quote) (now (s .args .text)))) (omega (arith, run-length (b .ascii-end .ensures), ap length (b .before .behind .ensures)))
+    no-room (now (s .args .buffer)) (s .args .to) (decoded (drop (s .args .quote) (now (s .args .text))))
+    (omega (arith, run-from-length (b .plain-end .ensures), ap length (b .before .behind .ensures)))
 
 copy-requires : tie.Need-copy-requires
 copy-requires c κs =
     let b = c .before .before .before .before in
-    (b .ascii-end .ensures, omega (arith, run-length (b .ascii-end .ensures)))
+    (b .plain-end .ensures, omega (arith, run-from-length (b .plain-end .ensures)))
 
 same-length : tie.Need-same-length
 same-length c = search needs
@@ -56,14 +59,16 @@ returns-3 c =
     let r = c .before .before in
     let b = r .before .before .before .before .before in
     let s = b .before .before .before .before in
-    room-for (now (s .args .buffer)) (s .args .to) (decoded (drop (s .args .quote) (now (s .args .text)))) _ _ (omega (arith, run-length (b .ascii-end .ensures), ap length (b .before .behind .ensures))) (rw (b .before .behind .ensures) at (r .copy .ensures .0)) (rw (b .before .behind .ensures) at (r .copy .ensures .1))
+    let q = b .before .behind .ensures in
+    room-for (now (s .args .buffer)) (s .args .to) (decoded (drop (s .args .quote) (now (s .args .text)))) _ _
+    (omega (arith, run-from-length (b .plain-end .ensures), ap length q)) (rw q at (r .copy .ensures .0)) (rw q at (r .copy .ensures .1))
 
 pub lay-spec : {M : Type 1} → statement M
 lay-spec =
     tie.close
     (tie.spec
     behind-requires
-    ascii-end-requires
+    plain-end-requires
     sub-n
     rest-length-requires
     add-n

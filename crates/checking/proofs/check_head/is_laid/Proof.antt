@@ -27,7 +27,7 @@ unused-requires : tie.Need-unused-requires
 unused-requires c κs = (search needs, c .before .before .before .before .before .before .before .before .before .before .if2 .left)
 
 returns-4 : tie.Need-returns-4
-returns-4 c = yes-of (record { room = c .before .before .before .before .before .before .before .before .before .before .before .before .before .if1 .left; fits = c .before .before .before .before .before .before .before .before .before .before .before .before .if2 .left; counted = omega (arith, c .before .before .before .before .before .before .before .before .before .before .below .ensures (omega arith), c .before .before .before .before .before .before .before .before .before .if4 .taken, c .before .before .before .before .before .before .before .before .before .before .before .if3 .left); taken = c .before .before .before .before .before .before .before .before .detail .result .text; detail = c .before .before .before .before .before .before .before .before .detail .ensures .yes (c .before .before .before .before .before .before .before .if5 .taken); pieces = rw (c .before .before .before .if7 .taken) (c .before .before .before .before .before .before .strings .ensures .yes (c .before .before .before .before .before .if6 .taken)); zeros = c .before .unused .ensures .yes (c .if8 .taken) })
+returns-4 c = yes-of (record { all = search needs; room = c .before .before .before .before .before .before .before .before .before .before .before .before .before .if1 .left; fits = c .before .before .before .before .before .before .before .before .before .before .before .before .if2 .left; counted = omega (arith, c .before .before .before .before .before .before .before .before .before .before .below .ensures (omega arith), c .before .before .before .before .before .before .before .before .before .if4 .taken, c .before .before .before .before .before .before .before .before .before .before .before .if3 .left); taken = c .before .before .before .before .before .before .before .before .detail .result .text; detail = c .before .before .before .before .before .before .before .before .detail .ensures .yes (c .before .before .before .before .before .before .before .if5 .taken); pieces = rw (c .before .before .before .if7 .taken) (c .before .before .before .before .before .before .strings .ensures .yes (c .before .before .before .before .before .if6 .taken)); zeros = c .before .unused .ensures .yes (c .if8 .taken) })
 
 returns-5 : tie.Need-returns-5
 returns-5 c = no-of (λ p. c .before .unused .ensures .no (c .if8 .left) (p .zeros))

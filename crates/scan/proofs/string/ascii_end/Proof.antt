@@ -1,58 +1,58 @@
--- Each byte passed is a character of its own, so the string ends where it ended.
+-- One skip behind another.
 use borrow.Author.Needs.{needs}
-use Prim.Native.Nat.{_-_}
-use mathlib.Core.Path.{sym, _∙_}
-use lib.ListN.{length}
 use Rattle.json.specs.Part.{stringStop}
 use Rattle.json.specs.declared.string.InString.the-variants.{Plain}
-use Rattle.json.proofs.Passes.{Passes, passes-none, passes-one, skips}
-use Rattle.scan.proofs.Strings.{ascii-goes}
+use Rattle.json.proofs.Passes.{passes-none, skipped, skips}
 use Rattle.scan.proofs.string.ascii_end.Statement.{statement}
 use Rattle.scan.proofs.string.ascii_end.Tie as tie
 
-abbrev Inv-loop : tie.InvT-loop
-Inv-loop text at i₀ i = Passes (stringStop Plain) (stringStop Plain) text at i
+returns : tie.Need-returns
+returns c = search needs
 
-abbrev μ-loop : tie.MeasureT-loop
-μ-loop text at i₀ i = length text - i
+sub-if2 : tie.Need-sub-if2
+sub-if2 c = search needs
 
-loop-holds : tie.Need-loop-holds Inv-loop μ-loop
-loop-holds c = passes-none (stringStop Plain) _ _
+ascii-upto-requires : tie.Need-ascii-upto-requires
+ascii-upto-requires c κs = search needs
 
-shared-slice-read-is-ascii : tie.Need-shared-slice-read-is-ascii Inv-loop μ-loop
-shared-slice-read-is-ascii c = search needs
+returns-2 : tie.Need-returns-2
+returns-2 c = search needs
 
-is-ascii-requires : tie.Need-is-ascii-requires Inv-loop μ-loop
-is-ascii-requires c κs = search needs
+add-ascii-upto : tie.Need-add-ascii-upto
+add-ascii-upto c = search needs
 
-add-i : tie.Need-add-i Inv-loop μ-loop
-add-i c = search needs
+ascii-upto-requires-2 : tie.Need-ascii-upto-requires-2
+ascii-upto-requires-2 c κs = search needs
 
-loop-less : tie.Need-loop-less Inv-loop μ-loop
-loop-less c = search needs
+add-if3 : tie.Need-add-if3
+add-if3 c = search needs
 
-loop-again : tie.Need-loop-again Inv-loop μ-loop
-loop-again c =
-    let l = c .before .before .before in
-    passes-one (l .before .loop .inv) (l .loop-test .taken) (ascii-goes _ (sym (c .before .is-ascii .ensures) ∙ c .if1 .taken))
+returns-3 : tie.Need-returns-3
+returns-3 c = search needs
 
-returns : tie.Need-returns Inv-loop μ-loop
-returns c = skips (c .before .before .before .before .loop .inv)
+sixteens-end-requires : tie.Need-sixteens-end-requires
+sixteens-end-requires c κs = search needs
 
-returns-2 : tie.Need-returns-2 Inv-loop μ-loop
-returns-2 c = skips (c .before .loop .inv)
+ascii-upto-requires-3 : tie.Need-ascii-upto-requires-3
+ascii-upto-requires-3 c κs = search needs
+
+returns-4 : tie.Need-returns-4
+returns-4 c =
+    let i = skipped (passes-none (stringStop Plain) _ _) (c .before .before .before .ascii-upto2 .ensures) in
+    skips (skipped (skipped i (c .before .sixteens-end .ensures)) (c .ascii-upto3 .ensures))
 
 pub ascii-end-spec : {M : Type 1} → statement M
 ascii-end-spec =
     tie.close
     (tie.spec
-    Inv-loop
-    μ-loop
-    loop-holds
-    shared-slice-read-is-ascii
-    is-ascii-requires
-    add-i
-    loop-less
-    loop-again
     returns
-    returns-2)
+    sub-if2
+    ascii-upto-requires
+    returns-2
+    add-ascii-upto
+    ascii-upto-requires-2
+    add-if3
+    returns-3
+    sixteens-end-requires
+    ascii-upto-requires-3
+    returns-4)

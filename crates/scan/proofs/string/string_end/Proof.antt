@@ -1,85 +1,77 @@
--- Where the string ends is asked of the rest, in the state that the bytes passed lead to.
+-- Each character passed leaves where the string ends as it was; the rest is asked of the states.
 use borrow.Author.Needs.{needs}
 use Prim.Native.Nat.{_-_}
-use mathlib.Core.Path.{sym, _∙_}
+use mathlib.Core.Path.{sym}
 use native.Mathlib.Omega.{arith}
 use lib.ListN.{length}
-use Rattle.json.specs.Part.{past, torn, stringStop}
+use Rattle.json.specs.Part.{past, stringStop}
 use Rattle.json.specs.declared.string.InString.the-variants.{Plain}
-use Rattle.json.proofs.Passes.{Passes, passes-none, passes-one, answers-here, answers-end, skipped}
-use Rattle.scan.proofs.Strings.{string-goes, string-closes, string-refuses, string-none, quote-closes}
+use Rattle.json.proofs.Passes.{Passes, passes-none, passes-one, passes-on, skipped}
+use Rattle.scan.proofs.Strings.{string-closes, quote-closes, stops-from}
 use Rattle.scan.proofs.string.string_end.Statement.{statement}
 use Rattle.scan.proofs.string.string_end.Tie as tie
 
 abbrev Inv-loop : tie.InvT-loop
-Inv-loop text at i₀ state₀ i state = Passes (stringStop state) (stringStop Plain) text at i
+Inv-loop text at i₀ i = Passes (stringStop Plain) (stringStop Plain) text at i
 
 abbrev μ-loop : tie.MeasureT-loop
-μ-loop text at i₀ state₀ i state = length text - i
+μ-loop text at i₀ i = length text - i
 
 ascii-end-requires : tie.Need-ascii-end-requires Inv-loop μ-loop
 ascii-end-requires c κs = search needs
 
-shared-slice-read-if2 : tie.Need-shared-slice-read-if2 Inv-loop μ-loop
-shared-slice-read-if2 c = search needs
+loop-holds : tie.Need-loop-holds Inv-loop μ-loop
+loop-holds c = skipped (passes-none (stringStop Plain) _ _) (c .ascii-end .ensures)
 
-add-t11 : tie.Need-add-t11 Inv-loop μ-loop
-add-t11 c = search needs
+shared-slice-read-if1 : tie.Need-shared-slice-read-if1 Inv-loop μ-loop
+shared-slice-read-if1 c = search needs
+
+add-t9 : tie.Need-add-t9 Inv-loop μ-loop
+add-t9 c = search needs
 
 returns : tie.Need-returns Inv-loop μ-loop
 returns c =
-    let i = c .before .before in
-    let p = passes-one (skipped (passes-none (stringStop Plain) _ _) (i .before .ascii-end .ensures)) (i .if1 .taken) {k = past} (string-closes Plain _ (quote-closes _ (c .if2 .taken))) in
+    let l = c .before .before in
+    let p = passes-one (l .before .loop .inv) (l .loop-test .taken) {k = past} (string-closes Plain _ (quote-closes _ (c .if1 .taken))) in
     (sym (p .same), p .ahead, omega arith)
 
-loop-holds : tie.Need-loop-holds Inv-loop μ-loop
-loop-holds c = skipped (passes-none (stringStop Plain) _ _) (c .before .ascii-end .ensures)
+odd-char-requires : tie.Need-odd-char-requires Inv-loop μ-loop
+odd-char-requires c κs = search needs
 
-shared-slice-read-char-after : tie.Need-shared-slice-read-char-after Inv-loop μ-loop
-shared-slice-read-char-after c = search needs
+states-end-requires : tie.Need-states-end-requires Inv-loop μ-loop
+states-end-requires c κs = search needs
 
-char-after-requires : tie.Need-char-after-requires Inv-loop μ-loop
-char-after-requires c κs = search needs
+returns-2 : tie.Need-returns-2 Inv-loop μ-loop
+returns-2 c =
+    let l = c .before .before .before .before .before .before .loop .inv in
+    stops-from _ _ _ (c .states-end .result) (sym (l .same)) (l .ahead) (c .states-end .ensures)
 
-enum-known-next : tie.Need-enum-known-next Inv-loop μ-loop
-enum-known-next c = search needs
+add-ascii-end : tie.Need-add-ascii-end Inv-loop μ-loop
+add-ascii-end c =
+    let o = c .before .odd-char .ensures (omega arith) in
+    omega (arith, o .inside)
 
-add-ascii-skipped : tie.Need-add-ascii-skipped Inv-loop μ-loop
-add-ascii-skipped c = search needs
-
-ascii-skipped-requires : tie.Need-ascii-skipped-requires Inv-loop μ-loop
-ascii-skipped-requires c κs = search needs
+ascii-end-requires-2 : tie.Need-ascii-end-requires-2 Inv-loop μ-loop
+ascii-end-requires-2 c κs = search needs
 
 loop-less : tie.Need-loop-less Inv-loop μ-loop
-loop-less c = search needs
+loop-less c =
+    let o = c .before .before .odd-char .ensures (omega arith) in
+    omega (arith, o .inside)
 
 loop-again : tie.Need-loop-again Inv-loop μ-loop
 loop-again c =
     let l = c .before .before .before .before .before .before in
-    skipped (passes-one (l .before .loop .inv) (l .loop-test .taken) (string-goes _ _ (sym (c .before .before .before .before .char-after .ensures) ∙ c .before .before .next .given .1))) (c .ascii-skipped .ensures)
+    let o = c .before .before .odd-char .ensures (omega arith) in
+    skipped (passes-on (l .loop .inv) (o .same) (omega arith) (o .inside)) (c .ascii-end2 .ensures)
 
-enum-told : tie.Need-enum-told Inv-loop μ-loop
-enum-told c = search needs
-
-add-t18 : tie.Need-add-t18 Inv-loop μ-loop
-add-t18 c = search needs
-
-returns-2 : tie.Need-returns-2 Inv-loop μ-loop
-returns-2 c =
-    let l = c .before .before .before .before in
-    let p = passes-one (l .before .loop .inv) (l .loop-test .taken) {k = past} (string-closes _ _ (sym (c .before .before .char-after .ensures) ∙ c .enum-told .given .1)) in
-    (sym (p .same), p .ahead, omega arith)
-
-enum-told-2 : tie.Need-enum-told-2 Inv-loop μ-loop
-enum-told-2 c = search needs
+states-end-requires-2 : tie.Need-states-end-requires-2 Inv-loop μ-loop
+states-end-requires-2 c κs = search needs
 
 returns-3 : tie.Need-returns-3 Inv-loop μ-loop
 returns-3 c =
-    let l = c .before .before .before .before in
-    (answers-here (l .before .loop .inv) (l .loop-test .taken) torn (string-refuses _ _ (sym (c .before .before .char-after .ensures) ∙ c .enum-told2 .given .1)), omega arith)
-
-returns-4 : tie.Need-returns-4 Inv-loop μ-loop
-returns-4 c = (answers-end (c .before .loop .inv) torn (c .loop-test .left) (string-none _), omega arith)
+    let l = c .before .before .loop .inv in
+    stops-from _ _ _ (c .states-end2 .result) (sym (l .same)) (l .ahead) (c .states-end2 .ensures)
 
 pub string-end-spec : {M : Type 1} → statement M
 string-end-spec =
@@ -88,20 +80,16 @@ string-end-spec =
     Inv-loop
     μ-loop
     ascii-end-requires
-    shared-slice-read-if2
-    add-t11
-    returns
     loop-holds
-    shared-slice-read-char-after
-    char-after-requires
-    enum-known-next
-    add-ascii-skipped
-    ascii-skipped-requires
+    shared-slice-read-if1
+    add-t9
+    returns
+    odd-char-requires
+    states-end-requires
+    returns-2
+    add-ascii-end
+    ascii-end-requires-2
     loop-less
     loop-again
-    enum-told
-    add-t18
-    returns-2
-    enum-told-2
-    returns-3
-    returns-4)
+    states-end-requires-2
+    returns-3)
