@@ -1,6 +1,6 @@
 /* Times posology_read beside programs that do the same job with a JSON library's tree: each object's names looked at (unknown, twice), its type and values
  * checked, a record filled for it, strings copied. What they leave out is to their favour: places of refusals, numbers' exact digits, UTF-8 of the text.
- * Then posology_write beside RapidJSON's Writer, which goes through the same records and checks nothing, and the worst texts of 32,768 bytes.
+ * Then posology_write beside RapidJSON's Writer, which goes through the same records and checks nothing, and posology_length; and the worst texts of 32,768 bytes.
  * Built and run by bench/read. */
 #include <cjson/cJSON.h>
 #include <rapidjson/document.h>
@@ -402,8 +402,9 @@ static void by_writer(const Plan &p, rapidjson::StringBuffer &b) {
     if (h[17 + 2 * i]) w.Key(names[i]), w.String((const char *)strings + h[16 + 2 * i], h[17 + 2 * i]);
   w.EndObject();
 }
-static uint8_t written[20736];
+static uint8_t written[POSOLOGY_PLAIN_BYTES];
 static uint64_t by_posology_write(uint64_t &place) { return posology_write(area, sizeof area, strings, sizeof strings, 1, written, sizeof written, &place); }
+static uint64_t by_posology_length(uint64_t &place) { return posology_length(area, sizeof area, strings, sizeof strings, 1, &place); }
 
 static double now() {
   timespec t;
@@ -497,14 +498,14 @@ int main() {
     if (!by_posology(p.text) || !by_cjson(p.text) || !by_rapidjson(p.text) || !by_simdjson(p.text)) return std::printf("%s was refused\n", p.name), 1;
     std::printf("%-20s %6zu %12.0f %12.0f %12.0f %12.0f\n", p.name, p.text.size(), best(by_posology, p.text), best(by_cjson, p.text), best(by_rapidjson, p.text), best(by_simdjson, p.text));
   }
-  std::printf("\n%-20s %6s %12s %12s\n", "writing, ns", "bytes", "posology", "RapidJSON");
+  std::printf("\n%-20s %6s %12s %12s %12s\n", "writing, ns", "bytes", "posology", "RapidJSON", "length alone");
   for (auto &p : plans) {
     uint64_t place;
     if (!by_posology(p.text) || by_posology_write(place)) return std::printf("%s was not written\n", p.name), 1;
     Plan q = plan_of();
     rapidjson::StringBuffer b;
     by_writer(q, b);
-    std::printf("%-20s %6d %12.0f %12.0f\n", p.name, (int)place, least([&] { by_posology_write(place); }, 300), least([&] { by_writer(q, b); }, 300));
+    std::printf("%-20s %6d %12.0f %12.0f %12.0f\n", p.name, (int)place, least([&] { by_posology_write(place); }, 300), least([&] { by_writer(q, b); }, 300), least([&] { by_posology_length(place); }, 300));
   }
   const std::string deep = R"({"unit":"a","po":{"t":5,"sos":[{"t":1,"du":1,"duU":1,"po":{"t":5,"sos":[{"t":1,"du":1,"duU":1,"po":{"t":5,"sos":[{"t":1,"du":1,"duU":1,"po":{"t":4,"cyDuU":6,"cyDu":1,"tdo":{"t":5,"doms":[)", deep_end = R"(],"tdo":{"t":2,"ts":[]}}}}]}}]}}]}})";
   struct { const char *name; std::string text; } worst[] = {

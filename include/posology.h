@@ -1,6 +1,6 @@
 /* ChMed23A posologies (eMediplan, "Posology" 2.1) read, written and kept on a shelf from C.
  *
- * The seven functions are proved: for every input, the number that is returned, the place, and each byte of the lent buffers are those that
+ * The eight functions are proved: for every input, the number that is returned, the place, and each byte of the lent buffers are those that
  * docs/FORMAT.md names (docs/PROMISES.md). They allocate nothing, keep nothing between calls and call nothing of the C library but memcpy and
  * memset, which the compiler puts in; what they are lent they use until they return, and not after. Calls in different threads don't meet, as long as no buffer that one of them writes is
  * another's.
@@ -10,7 +10,7 @@
  *     the `number` of posology_shelf_at, are aligned as a uint64_t is;
  *   - a buffer that is written (`strings`, `table`, `out`, `*place`, `*number`, and the `area` of posology_shelf_put and posology_shelf_remove) shares no
  *     byte with any other buffer of the call; posology_shelf_fetch and posology_shelf_at only read the area;
- *   - the calling thread has 64 KB of stack left for posology_read, posology_next and posology_write, and 128 KB for the four of the shelf (32 KB and
+ *   - the calling thread has 64 KB of stack left for posology_read, posology_next, posology_write and posology_length, and 128 KB for the four of the shelf (32 KB and
  *     63 KB are the most that was seen used: measured, not proved).
  *
  * Nothing else is asked. Any bytes may be in any buffer, a length may be any, and a use or a number, too, is tested.
@@ -26,18 +26,24 @@ extern "C" {
 #endif
 
 /* One higher with each landing that changes a function, a layout or an answer: 1 had posology_read, posology_next and posology_write, 2 adds the shelf,
- * 3 compares two dates with a time as moments (answers 12, 18 and 20).
+ * 3 compares two dates with a time as moments (answers 12, 18 and 20), 4 adds posology_length.
  * A program refuses to build against another version by
- *     #if POSOLOGY_VERSION != 3
- *     #error "written for version 3 of posology.h"
+ *     #if POSOLOGY_VERSION != 4
+ *     #error "written for version 4 of posology.h"
  *     #endif */
-#define POSOLOGY_VERSION 3
+#define POSOLOGY_VERSION 4
 
 /* The size of the area that a table lies in (docs/AREA.md): 410 numbers of 8 bytes, the least significant first. */
 #define POSOLOGY_TABLE_BYTES 3280
 
 /* The most text that a table can name: a longer `strings` buffer is used up to here. */
 #define POSOLOGY_STRINGS_BYTES 2048
+
+/* The plain text of a table with so many records (number POSOLOGY_COUNT) and so many bytes of text (POSOLOGY_TEXT) is at most as long as this. */
+#define POSOLOGY_PLAIN_MOST(records, text_bytes) (6 * (text_bytes) + 128 * (records) + 256)
+
+/* No plain text is longer: POSOLOGY_PLAIN_MOST of 64 records and POSOLOGY_STRINGS_BYTES. */
+#define POSOLOGY_PLAIN_BYTES 20736
 
 /* The most bytes that a shelf's area may have; it may have fewer, and none. */
 #define POSOLOGY_SHELF_BYTES 65535
@@ -71,7 +77,7 @@ enum posology_answer {
     POSOLOGY_RECORDS_FULL = 15, /* a 65th record: the object's brace */
     POSOLOGY_TEXT_FULL = 16,    /* a string past the text room: the value */
     POSOLOGY_WRONG_USE = 17,    /* use neither 1 nor 3: 0 */
-    POSOLOGY_NO_TABLE = 18,     /* writer: bytes that lay out no table, or a table and strings that no text reads to for this use: 0 */
+    POSOLOGY_NO_TABLE = 18,     /* writer and posology_length: bytes that lay out no table, or a table and strings that no text reads to for this use: 0 */
     POSOLOGY_WRONG_SIZE = 19,   /* `table` of another size: POSOLOGY_TABLE_BYTES. writer: text longer than `out`: the length needed */
     POSOLOGY_NO_SHELF = 20,     /* shelf: area over 65,535 bytes, not laid out as a shelf, a number 0 or twice, or a text that is no plain text for use 3: 0 */
     POSOLOGY_NO_NUMBER = 21,    /* shelf: number 0, or over 65,535: 0 */
@@ -108,6 +114,12 @@ uint64_t posology_next(const uint8_t *run, size_t run_len, uint64_t use, uint8_t
 /* Writes a table's plain text (since version 1). 0: it is the first *place bytes of `out`, and those behind are as they were lent.
  * Any other number: `out` is as it was lent. */
 uint64_t posology_write(const uint8_t *table, size_t table_len, const uint8_t *strings, size_t strings_len, uint64_t use, uint8_t *out, size_t out_len, uint64_t *place);
+
+/* Tells the length of a table's plain text without writing it (since version 4). 0: *place is that length; posology_write needs an `out` of so many bytes
+ * and no more, and answers 19 with that length for a shorter one. It is at most POSOLOGY_PLAIN_MOST of the table's records and bytes of text, which is
+ * 6 times its bytes of text, 128 times its records, and 256, added up, and so never over POSOLOGY_PLAIN_BYTES.
+ * Any other number, with its place, is what posology_write answers with any `out`: 17, 18, or 19 for a `table` of another size. Nothing but *place is written. */
+uint64_t posology_length(const uint8_t *table, size_t table_len, const uint8_t *strings, size_t strings_len, uint64_t use, uint64_t *place);
 
 /* A shelf keeps posologies as plain texts in one lent area, each under a number from 1 to 65,535, in the order in which they were put; an area of
  * zeros is an empty shelf. Any bytes may lie in the area: every call goes over all of it first, and refuses with 20 what is no shelf.

@@ -1,12 +1,12 @@
-/* Reads a plan's posologies from a file, one behind the other, and prints the records of each and its plain text.
- * Built and run by examples/c/run. */
+/* Reads a plan's posologies from a file, one behind the other, and prints the records of each and its plain text, for which it reserves no more than
+ * it takes. Built and run by examples/c/run. */
 #include "posology.h"
 #include <stdio.h>
+#include <stdlib.h>
 
 static uint8_t run[1 << 20];
 static uint8_t strings[POSOLOGY_STRINGS_BYTES];
 static uint8_t table[POSOLOGY_TABLE_BYTES];
-static uint8_t out[1 << 16];
 
 /* A tag's name, and what its values are called. */
 static const struct {
@@ -55,13 +55,18 @@ static void print_record(size_t i) {
 }
 
 static int print_plain(void) {
-    uint64_t length;
-    uint64_t answer = posology_write(table, sizeof table, strings, sizeof strings, POSOLOGY_PLAN, out, sizeof out, &length);
-    if (answer != POSOLOGY_DONE) {
+    uint64_t length, place;
+    uint64_t answer = posology_length(table, sizeof table, strings, sizeof strings, POSOLOGY_PLAN, &length);
+    uint8_t *out = answer == POSOLOGY_DONE ? malloc(length) : NULL;
+    if (out) answer = posology_write(table, sizeof table, strings, sizeof strings, POSOLOGY_PLAN, out, length, &place);
+    if (!out || answer != POSOLOGY_DONE) {
         fprintf(stderr, "not written: %llu\n", (unsigned long long)answer);
         return 1;
     }
+    uint64_t most = POSOLOGY_PLAIN_MOST(number(POSOLOGY_COUNT), number(POSOLOGY_TEXT));
+    printf("  %llu bytes, and at most %llu of such a table\n", (unsigned long long)length, (unsigned long long)most);
     printf("  %.*s\n", (int)length, (const char *)out);
+    free(out);
     return 0;
 }
 

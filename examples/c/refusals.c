@@ -105,18 +105,28 @@ static void blanks(void) {
     expect("strings and table as lent", untouched(strings, sizeof strings) && untouched(table, sizeof table));
 }
 
+/* The length is refused as the plain text is; and nothing but the place is written. */
+static void no_length(size_t table_len, uint64_t use, uint64_t number, uint64_t at) {
+    uint64_t place = ~0ULL;
+    uint64_t answer = posology_length(table, table_len, strings, sizeof strings, use, &place);
+    answers("length", answer, place, number, at);
+}
+
 /* 18: bytes that lay out no table; and the empty table, which no text reads to. */
 static void no_table(void) {
     uint64_t place = ~0ULL;
     lend();
     uint64_t answer = posology_write(table, sizeof table, strings, sizeof strings, POSOLOGY_PLAN, out, sizeof out, &place);
     answers("write", answer, place, 18, 0);
+    no_length(sizeof table, POSOLOGY_PLAN, 18, 0);
     memset(table, 0, sizeof table);
     place = ~0ULL;
     answer = posology_write(table, sizeof table, strings, sizeof strings, POSOLOGY_PLAN, out, sizeof out, &place);
     answers("write", answer, place, 18, 0);
+    no_length(sizeof table, POSOLOGY_PLAN, 18, 0);
     answer = posology_write(table, sizeof table, strings, sizeof strings, 2, out, sizeof out, &place);
     answers("write", answer, place, 17, 0);
+    no_length(sizeof table, 2, 17, 0);
     expect("out as lent", untouched(out, sizeof out));
 }
 
@@ -133,6 +143,7 @@ static void wrong_size(void) {
     place = ~0ULL;
     answer = posology_write(table, 0, strings, sizeof strings, 2, out, sizeof out, &place);
     answers("write", answer, place, 19, POSOLOGY_TABLE_BYTES);
+    no_length(sizeof table - 1, 2, 19, POSOLOGY_TABLE_BYTES);
     expect("all as lent", untouched(strings, sizeof strings) && untouched(table, sizeof table) && untouched(out, sizeof out));
 }
 
@@ -148,10 +159,13 @@ static void taken(void) {
     expect("strings", memcmp(strings, "xA", 2) == 0 && untouched(strings + 2, sizeof strings - 2));
     answer = posology_next((const uint8_t *)text, strlen(text), POSOLOGY_PRESCRIPTION, strings, sizeof strings, table, sizeof table, &place);
     answers("next", answer, place, 0, strlen(text) - 1);
+    place = ~0ULL;
+    answer = posology_length(table, sizeof table, strings, sizeof strings, POSOLOGY_PRESCRIPTION, &place);
+    answers("length", answer, place, 0, n);
     answer = posology_write(table, sizeof table, strings, sizeof strings, POSOLOGY_PRESCRIPTION, out, n - 1, &place);
     answers("write", answer, place, 19, n);
     expect("out as lent", untouched(out, sizeof out));
-    answer = posology_write(table, sizeof table, strings, sizeof strings, POSOLOGY_PRESCRIPTION, out, sizeof out, &place);
+    answer = posology_write(table, sizeof table, strings, sizeof strings, POSOLOGY_PRESCRIPTION, out, n, &place);
     answers("write", answer, place, 0, n);
     expect("plain text", memcmp(out, plain, n) == 0 && untouched(out + n, sizeof out - n));
     table[8 * POSOLOGY_COUNT] = 2;

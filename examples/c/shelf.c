@@ -3,8 +3,8 @@
 #include "posology.h"
 #include <stdio.h>
 
-#if POSOLOGY_VERSION != 3
-#error "written for version 3 of posology.h"
+#if POSOLOGY_VERSION != 4
+#error "written for version 4 of posology.h"
 #endif
 
 static uint8_t run[1 << 20];

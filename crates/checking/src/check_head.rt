@@ -7,6 +7,7 @@ use document::table::Date;
 use document::table::Head;
 use document::table::MEAL_CODES;
 use document::table::RECORDS;
+use document::table::TEXT_ROOM;
 use document::table::Text;
 use document::table::WORDS;
 use doses::below;
@@ -144,13 +145,11 @@ fn strings(buffer: &[u8], h: Head, text: usize) -> Checked
 // "at most 3 sequences inside one another"
 const SEQUENCES: usize = 3;
 
-const ROOM: usize = 2048;
-
 // The records and the strings of a table, as its head says.
 fn is_laid(words: &[u64; WORDS], buffer: &[u8], h: Head, count: usize, text: usize) -> bool
     ensures { λ r. ⌜ Decides (LaidAt (now (words .entry)) (now (buffer .entry)) h count text) r ⌝ }
 {
-    if ROOM < text {
+    if TEXT_ROOM < text {
         return false;
     }
     if RECORDS < count {

@@ -18,6 +18,7 @@ use Rattle.document.specs.Spells.{Means, openAtMost}
 use Rattle.document.specs.Same.{Reordered, unplaced}
 use Rattle.document.specs.Answer.{taken, read, textAtMost, takenTo, readNext}
 use Rattle.document.specs.Write.{greatestRoom}
+use Rattle.document.specs.Length.{greatestLength}
 use Rattle.document.proofs.Spelled.{reordered-taken, next-spells, spelled-next}
 use Rattle.document.proofs.Moves.{moved}
 use Rattle.document.proofs.NextTexts.{reordered-next}
@@ -43,8 +44,8 @@ written-is-one purpose room buffer other ps qs run u v w e f =
 pub run-is-written : (purpose room buffer : ℕ) (ps : List Posology) → AllValid purpose room ps → AllWithin buffer ps → writeAll purpose buffer ps ≡ some (plainTexts ps)
 run-is-written purpose room buffer ps v h = texts-written purpose room buffer v h
 
-pub run-is-written-in-20736 : (purpose room : ℕ) (ps : List Posology) → AllValid purpose room ps → writeAll purpose 20736 ps ≡ some (plainTexts ps)
-run-is-written-in-20736 purpose room ps v = texts-written purpose room 20736 v (all-within purpose room v)
+pub run-is-written-in-20736 : (purpose room : ℕ) (ps : List Posology) → AllValid purpose room ps → writeAll purpose greatestLength ps ≡ some (plainTexts ps)
+run-is-written-in-20736 purpose room ps v = texts-written purpose room greatestLength v (all-within purpose room v)
 
 -- The same of the plain texts, whoever laid them.
 pub run-comes-back : (purpose room : ℕ) (ps : List Posology) → isUse purpose ≡ true → AllValid purpose room ps → readAll purpose room (plainTexts ps) ≡ some (endings 0 ps)

@@ -4,6 +4,8 @@ pub mod Demand2
 pub mod Demand3
 pub mod Refusals
 pub mod BlanksBetween
+pub mod Wish10
+pub mod LongestKnown
 -- What an answer leaves, and a table written and read
 pub mod Leaves
 pub mod TablesBack

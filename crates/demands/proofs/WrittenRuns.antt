@@ -14,7 +14,8 @@ use Rattle.document.specs.Table.{tableOf}
 use Rattle.document.specs.Plain.{plain}
 use Rattle.document.specs.Valid.{Valid, Fits, strings}
 use Rattle.document.specs.Write.{Write, writes, refuses, write, fitting, greatestRoom}
-use Rattle.document.proofs.Lengths.{plain-at-most}
+use Rattle.document.specs.Length.{greatestLength}
+use Rattle.document.proofs.Lengths.{plain-within}
 use Rattle.document.proofs.PlainThen.{plain-then}
 use Rattle.document.proofs.Tables.{own-written}
 use Rattle.demands.specs.Runs.{inFront, writeAll, plainTexts, AllValid, no-posology, next-posology, AllWithin, no-text, next-text}
@@ -49,6 +50,6 @@ written-within purpose room buffer run (next-posology {p = p} {ps = ps} v f g w)
 pub written-texts : (purpose room buffer : ℕ) {ps : List Posology} (run : List ℕ) → AllValid purpose room ps → writeAll purpose buffer ps ≡ some run → plainTexts ps ≡ run
 written-texts purpose room buffer run v e = let a = texts-written purpose room buffer v (written-within purpose room buffer run v e) in cc
 
-pub all-within : (purpose room : ℕ) {ps : List Posology} → AllValid purpose room ps → AllWithin 20736 ps
+pub all-within : (purpose room : ℕ) {ps : List Posology} → AllValid purpose room ps → AllWithin greatestLength ps
 all-within purpose room no-posology = no-text
-all-within purpose room (next-posology {p = p} v f g w) = let a = plain-at-most purpose p [] (v .1) f in next-text {p = p} (omega arith) (all-within purpose room w)
+all-within purpose room (next-posology {p = p} v f g w) = next-text {p = p} (plain-within purpose p (v .1) f) (all-within purpose room w)

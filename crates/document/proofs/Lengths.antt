@@ -17,6 +17,7 @@ use Rattle.document.specs.Posology.{Posology, Day, Zone, east, west, Dat
 use Rattle.document.specs.Schema.{underSingle, underDays, underCyclic}
 use Rattle.document.specs.Valid.{climbs, isDays, validTimed, validDetail, validObject, validObjects, valid, timedRecords, detailRecords, objectRecords, objectsRecords, strings, Fits}
 use Rattle.document.specs.Write.{greatestRoom}
+use Rattle.document.specs.Length.{bound, greatestLength}
 use Rattle.document.specs.Plain.{two, clock, zoneText, dayText, wholeDigits, fractionDigits, pointed, whole, amount, fieldIf, textTree, timeText, dosageTree, daysTree, timesTree, segmentsTree, timedTree, detailTree, objectTree, objectsTree, Slot, fieldOf, membersOf, mapped, dateTree, reserveTree, headSlots, plainTree, plainThen, plain}
 use Rattle.document.proofs.Good.{detailText, objectText, objectsText, givenText}
 use Rattle.document.proofs.Days.{climbs-parts, days-climb}
@@ -229,7 +230,7 @@ head-size p =
     omega arith
 
 -- In front of anything.
-pub plain-then-length : (purpose : ℕ) (p : Posology) (k : List ℕ) → valid purpose p ≡ true → length (plainThen p k) ≤ 6 * length (strings p) + 128 * detailRecords (p .po) + 256 + length k
+pub plain-then-length : (purpose : ℕ) (p : Posology) (k : List ℕ) → valid purpose p ≡ true → length (plainThen p k) ≤ bound (detailRecords (p .po)) (length (strings p)) + length k
 unfolding plainThen
 plain-then-length purpose p k v =
     let n = valid-parts purpose p v in
@@ -240,12 +241,15 @@ plain-then-length purpose p k v =
     omega arith
 
 -- Six times the text bytes, 128 times the records, and 256 bound a plain text.
-pub plain-length : (purpose : ℕ) (p : Posology) → valid purpose p ≡ true → length (plain p) ≤ 6 * length (strings p) + 128 * detailRecords (p .po) + 256
+pub plain-length : (purpose : ℕ) (p : Posology) → valid purpose p ≡ true → length (plain p) ≤ bound (detailRecords (p .po)) (length (strings p))
 plain-length purpose p v = let a = plain-then-length purpose p [] v in omega arith
 
 -- With strings of at most 2,048 bytes it is never longer than 20,736 bytes.
-pub plain-at-most : (purpose : ℕ) (p : Posology) (k : List ℕ) → valid purpose p ≡ true → Fits greatestRoom p → length (plainThen p k) ≤ 20736 + length k
+pub plain-at-most : (purpose : ℕ) (p : Posology) (k : List ℕ) → valid purpose p ≡ true → Fits greatestRoom p → length (plainThen p k) ≤ greatestLength + length k
 plain-at-most purpose p k v f =
     let a = plain-then-length purpose p k v in
     let r = few-records purpose p v in
     omega arith
+
+pub plain-within : (purpose : ℕ) (p : Posology) → valid purpose p ≡ true → Fits greatestRoom p → length (plain p) ≤ greatestLength
+plain-within purpose p v f = let a = plain-at-most purpose p [] v f in omega arith

@@ -40,6 +40,7 @@ pub mod Untables
 pub mod Strings
 pub mod Untabled
 pub mod Tables
+pub mod TableLengths
 pub mod Numbered
 pub mod Wish3
 mod Calendar

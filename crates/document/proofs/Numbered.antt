@@ -1,7 +1,7 @@
 -- The numbering is one to one: an answer is known by its values.
 use mathlib.Core.Path.{_≡_, refl, ap, _∙_}
 use Rattle.json.proofs.Truth.{never}
-use Rattle.document.specs.Values.{answerValues, nextValues, writingValues}
+use Rattle.document.specs.Values.{answerValues, nextValues, writingValues, measuringValues}
 use Rattle.document.specs.declared.table.Reading.{Reading}
 use Rattle.document.specs.declared.table.NextReading.{NextReading}
 use Rattle.document.specs.declared.table.Answer.{Answer}
@@ -10,6 +10,8 @@ use Rattle.document.specs.declared.table.NextAnswer.{NextAnswer}
 use Rattle.document.specs.declared.table.NextAnswer.the-variants as N
 use Rattle.document.specs.declared.table.Writing.{Writing}
 use Rattle.document.specs.declared.table.Writing.the-variants as W
+use Rattle.document.specs.declared.table.Measuring.{Measuring}
+use Rattle.document.specs.declared.table.Measuring.the-variants as M
 use Rattle.document.specs.declared.table.Table.{Table}
 
 pub answer-one : (a b : Answer) → answerValues a ≡ answerValues b → a ≡ b
@@ -34,6 +36,12 @@ writing-one (W.Written m) (W.Written n) e = cc e
 writing-one (W.Written m) (W.Refused n p) e = never (cc e)
 writing-one (W.Refused m q) (W.Written n) e = never (cc e)
 writing-one (W.Refused m q) (W.Refused n p) e = cc e
+
+pub measuring-one : (a b : Measuring) → measuringValues a ≡ measuringValues b → a ≡ b
+measuring-one (M.Measured m) (M.Measured n) e = cc e
+measuring-one (M.Measured m) (M.Refused n p) e = never (cc e)
+measuring-one (M.Refused m q) (M.Measured n) e = never (cc e)
+measuring-one (M.Refused m q) (M.Refused n p) e = cc e
 
 -- A reading is known by its answer's values and its table.
 pub reading-one : (r s : Reading) → answerValues (r .answer) ≡ answerValues (s .answer) → r .table ≡ s .table → r ≡ s

@@ -16,5 +16,6 @@ pub mod Answer
 pub mod Words
 pub mod Untable
 pub mod Write
+pub mod Length
 pub mod Spells
 pub mod Same

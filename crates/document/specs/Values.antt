@@ -7,11 +7,13 @@ use Rattle.document.specs.declared.table.NextAnswer.{NextAnswer}
 use Rattle.document.specs.declared.table.NextAnswer.the-variants as N
 use Rattle.document.specs.declared.table.Writing.{Writing}
 use Rattle.document.specs.declared.table.Writing.the-variants as W
+use Rattle.document.specs.declared.table.Measuring.{Measuring}
+use Rattle.document.specs.declared.table.Measuring.the-variants as M
 
 -- Only a refusal has a number in "Answers by number".
 pub data Values : Type 0 where
   accepted : Values
-  ends : ℕ → Values  -- accepted, with the place behind the last byte that was read or written
+  ends : ℕ → Values  -- accepted, with the place behind the last byte that was read or written, or would be
   blanksOnly : ℕ → Values  -- only blanks remain: the run's length
   number : ℕ → ℕ → Values  -- refused, with the place
 
@@ -27,3 +29,7 @@ nextValues (N.Refused n place) = number n place
 abbrev pub writingValues : Writing → Values
 writingValues (W.Written n) = ends n
 writingValues (W.Refused n place) = number n place
+
+abbrev pub measuringValues : Measuring → Values
+measuringValues (M.Measured n) = ends n
+measuringValues (M.Refused n place) = number n place

@@ -5,6 +5,12 @@ pub const RECORDS: usize = 64;
 // Six a record: its tag, the records below it, four values.
 pub const WORDS: usize = 384;
 
+// Text room is the buffer's length or this, the smaller (document 01, "The table").
+pub const TEXT_ROOM: usize = 2048;
+
+// No plain text is longer (document 02, Wish 10).
+pub const LONGEST_PLAIN: usize = 20736;
+
 // The greatest meal code (document 01, "Objects": "relMeal? 1-6"); `mealCodes` in specs/Schema.antt.
 pub const MEAL_CODES: u8 = 6;
 
@@ -151,6 +157,12 @@ pub struct NextReading {
 // A table was written, with the length of its plain text, or refused.
 pub enum Writing {
     Written { length: usize },
+    Refused { number: u8, place: usize },
+}
+
+// The length of a table's plain text, or a refusal of the table.
+pub enum Measuring {
+    Measured { length: usize },
     Refused { number: u8, place: usize },
 }
 

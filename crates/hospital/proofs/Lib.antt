@@ -6,6 +6,8 @@ pub mod WrittenRead
 pub mod RunCalls
 pub mod TextCalls
 pub mod WriteCalls
+pub mod LengthCalls
+pub mod LengthSide
 pub mod FetchCalls
 pub mod ShelfAnswers
 pub mod ShelfSide

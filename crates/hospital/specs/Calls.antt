@@ -12,6 +12,7 @@ use Rattle.document.specs.Values.{Values, accepted, ends, blanksOnly, number}
 use Rattle.document.specs.Answer.{Read, taken, refused, read, readValues, bufferAfter, ReadNext, takenTo, blankTo, refusedAt, readNext, readNextValues, nextBufferAfter}
 use Rattle.document.specs.Write as W
 use Rattle.document.specs.Write.{Write, refuses, write, writeValues}
+use Rattle.document.specs.Length.{lengthOf}
 use Rattle.telling.specs.Telling.{told}
 use Rattle.telling.specs.declared.Told.{Told}
 use Rattle.area.specs.Area.{areaBytes, areaOf, tableIn, isArea}
@@ -95,3 +96,19 @@ module _ (purpose : ℕ) (area strings out : List ℕ) where
     pub number : n ≡ told (writeValues writeCall) .number
     pub place : at ≡ told (writeValues writeCall) .place
     pub out-left : out′ ≡ W.bufferAfter writeCall out
+
+-- Document 02, Wish 10, as writing is called: "17 and 18 as the writer, never 19 for a short buffer"
+unfoldable pub calledLength : ℕ → List ℕ → List ℕ → Values
+calledLength purpose area strings =
+    choose (eqb (length area) areaBytes) (λ _.
+    choose (isUse purpose) (λ _.
+    choose (isArea area) (λ _. lengthOf purpose (tableIn area) strings) λ _.
+    number 18 0) λ _.
+    number 17 0) λ _.
+    number 19 areaBytes
+
+-- The promise of posology_length.
+module _ (purpose : ℕ) (area strings : List ℕ) where
+  pub record MeasuresFrom (n at : ℕ) : Type 0 where
+    pub number : n ≡ told (calledLength purpose area strings) .number
+    pub place : at ≡ told (calledLength purpose area strings) .place

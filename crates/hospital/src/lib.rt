@@ -1,10 +1,12 @@
 // What a C program calls (include/posology.h): document 01, "The hospital side calls reading and writing from a C program".
 mod laying;
+mod measuring;
 mod reading;
 mod running;
 mod shelving;
 mod writing;
 
+pub use measuring::posology_length;
 pub use reading::posology_read;
 pub use running::posology_next;
 pub use shelving::posology_shelf_at;

@@ -10,11 +10,12 @@ use Rattle.document.specs.Posology.{Posology}
 use Rattle.document.specs.Plain.{plain}
 use Rattle.document.specs.Answer.{taken, refused, read}
 use Rattle.document.specs.Write.{writes, refuses, greatestRoom}
+use Rattle.document.specs.Length.{greatestLength}
 use Rattle.lines.specs.Lines.{forPlan, lineFeed, refusalLine, writtenLine, line}
 use Rattle.lines.proofs.Printed.{line-is, taken-near}
 
 -- "prints the plain text .. a line feed ends either"
-pub prints-plain : (buffer : ℕ) (input : List ℕ) (p : Posology) → 20736 ≤ buffer → read forPlan greatestRoom input ≡ taken p → line buffer input ≡ plain p ++ (lineFeed ∷ [])
+pub prints-plain : (buffer : ℕ) (input : List ℕ) (p : Posology) → greatestLength ≤ buffer → read forPlan greatestRoom input ≡ taken p → line buffer input ≡ plain p ++ (lineFeed ∷ [])
 prints-plain buffer input p h e =
     let near = taken-near input p e in
     line-is buffer input (taken p) e

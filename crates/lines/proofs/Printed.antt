@@ -17,10 +17,11 @@ use Rattle.document.specs.Values.{ends, number, answerValues}
 use Rattle.document.specs.Answer as R
 use Rattle.document.specs.Answer.{Read, taken, refused, read, readValues, tableAfter, Reads, laid}
 use Rattle.document.specs.Write.{writes, refuses, write, fitting, writeValues, bufferAfter, greatestRoom}
+use Rattle.document.specs.Length.{greatestLength}
 use Rattle.document.specs.declared.table.Table.{Table}
 use Rattle.document.specs.declared.table.Reading.{Reading}
 use Rattle.document.specs.declared.table.Answer.the-variants as A
-use Rattle.document.proofs.Lengths.{plain-at-most}
+use Rattle.document.proofs.Lengths.{plain-within}
 use Rattle.document.proofs.Tables.{own-written}
 use Rattle.document.proofs.Spelled.{accepted-spells}
 use Rattle.putting.specs.Puts.{greatestPlace, Puts}
@@ -64,7 +65,7 @@ line-refused buffer bytes {before} {after} {after′} {m} {at} {r} = go (leb (le
         let b : at ≡ length bytes = cc e in
         subst (λ (s : List ℕ). Puts s 0 (refusalLine 19 (length bytes)) [] r after′) f (rw (a, b) at q)
 
-pub refused-near : (buffer : ℕ) (bytes : List ℕ) {m at : ℕ} → number m at ≡ writeValues (fitting buffer bytes) → length bytes ≤ 20736 → (m < 1000000) × (at < 1000000)
+pub refused-near : (buffer : ℕ) (bytes : List ℕ) {m at : ℕ} → number m at ≡ writeValues (fitting buffer bytes) → length bytes ≤ greatestLength → (m < 1000000) × (at < 1000000)
 refused-near buffer bytes {m} {at} e short = go (leb (length bytes) buffer) e
   where
     go : (b : Bool) → number m at ≡ writeValues (cond b (writes bytes) (refuses 19 (length bytes))) → (m < 1000000) × (at < 1000000)
@@ -76,11 +77,8 @@ pub plain-fitting : (p : Posology) (behind : List ℕ) {t : Table} {text : List 
     → write forPlan t text room ≡ fitting room (plain p)
 plain-fitting p behind room v f e g = rw (e, g) (own-written forPlan room p behind v f)
 
-pub plain-near : (p : Posology) → Valid forPlan p → Fits greatestRoom p → length (plain p) ≤ 20736
-plain-near p v f = let h = plain-at-most forPlan p [] (v .1) f in omega arith
-
-pub taken-near : (input : List ℕ) (p : Posology) → read forPlan greatestRoom input ≡ taken p → length (plain p) ≤ 20736
-taken-near input p e = let s = accepted-spells forPlan greatestRoom input p e in plain-near p (s .1) (s .3)
+pub taken-near : (input : List ℕ) (p : Posology) → read forPlan greatestRoom input ≡ taken p → length (plain p) ≤ greatestLength
+taken-near input p e = let s = accepted-spells forPlan greatestRoom input p e in plain-within forPlan p (s .1 .1) (s .3)
 
 -- A text that was taken: its table and its strings are those of a posology that can be written.
 pub record Accepted (input : List ℕ) (t : Table) (text : List ℕ) : Type 0 where

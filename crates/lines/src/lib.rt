@@ -2,6 +2,7 @@
 pub mod console;
 
 use document::table::Answer;
+use document::table::TEXT_ROOM;
 use document::table::Table;
 use document::table::Writing;
 ghost use mathlib.Core.Path.{_≡_};
@@ -17,8 +18,6 @@ ghost use Rattle.putting.specs.Puts.{Puts};
 ghost use Rattle.lines.specs.Lines.{forPlan, refusalLine, writtenLine, line as lineIn};
 
 const PLAN: u64 = 1;
-
-const ROOM: usize = 2048;
 
 fn put_refusal(out: &mut [u8], number: u8, place: usize) -> usize
     ensures { λ r. ⌜ (number < 1000000 → place < 1000000 → Puts (now (out .entry)) 0 (refusalLine number place) [] r (now (out .exit))) ⌝ }
@@ -43,7 +42,7 @@ fn put_plain(out: &mut [u8], t: Table, strings: &[u8]) -> usize
 pub fn line(input: &[u8], out: &mut [u8]) -> usize
     ensures { λ r. ⌜ Puts (now (out .entry)) 0 (lineIn (length (now (out .entry))) (now (input .entry))) [] r (now (out .exit)) ⌝ }
 {
-    let mut strings = [0u8; ROOM];
+    let mut strings = [0u8; TEXT_ROOM];
     let r = posology::read(input, PLAN, &mut strings);
     let t = r.table;
     let a = r.answer;

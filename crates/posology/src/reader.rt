@@ -6,6 +6,7 @@ use document::table::Kind;
 use document::table::RECORDS;
 use document::table::Reading;
 use document::table::Record;
+use document::table::TEXT_ROOM;
 use document::table::Table;
 use document::table::Text;
 use document::table::WORDS;
@@ -19,8 +20,6 @@ ghost use Rattle.document.specs.Answer.{Reads, readWalked};
 ghost use Rattle.document.specs.Table.{emptyTable, noText};
 ghost use Rattle.document.specs.Valid.{roomOf};
 ghost use Rattle.posology.specs.Reader.{Walked, wordsValues, wordsTable, WordsOf, ReadsWords};
-
-const ROOM: usize = 2048;
 
 fn no_text() -> Text
     ensures { λ r. ⌜ r ≡ noText ⌝ }
@@ -55,10 +54,10 @@ pub fn empty_table() -> Table
 fn room_of(strings: &[u8]) -> usize
     ensures { λ r. ⌜ r ≡ roomOf (length (now (strings .entry))) ⌝ }
 {
-    if strings.len() < ROOM {
+    if strings.len() < TEXT_ROOM {
         return strings.len();
     }
-    ROOM
+    TEXT_ROOM
 }
 
 // A text that was walked. The strings are laid after acceptance alone.

@@ -14,9 +14,10 @@ use Rattle.document.specs.Untable.{posologyOf}
 use Rattle.document.specs.Plain.{plain, detailTree}
 use Rattle.document.specs.Answer.{laid}
 use Rattle.document.specs.Write.{greatestRoom, readable}
+use Rattle.document.specs.Length.{greatestLength}
 use Rattle.document.specs.declared.table.Head.{Head}
 use Rattle.document.specs.declared.table.Table.{Table}
-use Rattle.document.proofs.Lengths.{plain-at-most}
+use Rattle.document.proofs.Lengths.{plain-within}
 use Rattle.document.proofs.Tables.{own-readable}
 use Rattle.document.proofs.Untabled.{untabled}
 use Rattle.putting.specs.Puts.{Puts}
@@ -38,10 +39,10 @@ module _ (purpose : ℕ) (p : Posology) (v : valid purpose p ≡ true) (f : Fits
   stands-for = ap (λ (u : Table). posologyOf u buffer) made ∙ ap (posologyOf (tableOf p)) first ∙ untabled purpose p behind v
 
   -- A buffer of 20,736 bytes holds every plain text.
-  pub plain-put : {before after : List ℕ} {r : ℕ} → length (t .records) ≡ 64 → length before ≡ 20736
+  pub plain-put : {before after : List ℕ} {r : ℕ} → length (t .records) ≡ 64 → length before ≡ greatestLength
       → Printed (t .head) (rows (allWords (t .records))) buffer before r after → (r ≡ length (plain p)) × (after ≡ laid (plain p) before)
   plain-put {before} {after} {r} n size printed =
-      let most = plain-at-most purpose p [] v f in
+      let most = plain-within purpose p v f in
       let puts = printed (detailTree (posologyOf t buffer .po)) (writable purpose t buffer n stands) (prints purpose t buffer n stands) in
       let all = subst (λ (s : List ℕ). Puts before 0 s [] r after) (plainly purpose t buffer n stands ∙ ap plain stands-for) puts in
       (measured all (omega arith), stored all (omega arith) (omega arith))

@@ -12,6 +12,7 @@ use Rattle.document.specs.Values.{accepted, ends, number, writingValues}
 use Rattle.document.specs.Answer as A
 use Rattle.document.specs.Answer.{Read, taken, refused, read, readValues, tableAfter}
 use Rattle.document.specs.Write.{Write, writeValues, bufferAfter, greatestRoom}
+use Rattle.document.specs.Length.{greatestLength}
 use Rattle.document.specs.declared.table.Head.{Head}
 use Rattle.document.specs.declared.table.Writing.{Writing}
 use Rattle.document.specs.declared.table.Writing.the-variants.{Written, Refused}
@@ -50,7 +51,7 @@ module _ (purpose : ℕ) (text lent : List ℕ) (h : HeadRead) (ws buffer : List
       go (refused n place) i a = rewrites i a refl
 
   pub taken-rewritten : {tidied before after : List ℕ} {head : Head} {r : ℕ} → h .refused ≡ false
-      → tidied ≡ rows (allWords (recordsIn (h .used .records) ws)) → head ≡ headCells h → length before ≡ 20736
+      → tidied ≡ rows (allWords (recordsIn (h .used .records) ws)) → head ≡ headCells h → length before ≡ greatestLength
       → Printed head tidied buffer before r after → Rewrites purpose text before (Written r) after
   unfolding built
   taken-rewritten {before = before} {after} {r = r} e tidy top size printed =

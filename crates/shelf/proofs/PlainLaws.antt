@@ -12,10 +12,12 @@ use Rattle.document.specs.Posology.{Posology}
 use Rattle.document.specs.Plain.{plain}
 use Rattle.document.specs.Answer.{Read, taken, refused, read}
 use Rattle.document.specs.Write.{greatestRoom}
+use Rattle.document.specs.Length.{greatestLength}
 use Rattle.document.specs.declared.table.Writing.the-variants as W
+use Rattle.document.proofs.Lengths.{plain-within}
 use Rattle.document.proofs.Same.{same-refl, same-equal}
 use Rattle.shelf_list.specs.Shelf.{bothUses, isGiven, ifPlain, plainOf, isPlain}
-use Rattle.shelf_list.proofs.Records.{plain-short, plain-of-text}
+use Rattle.shelf_list.proofs.Records.{plain-of-text}
 use Rattle.rewriting.specs.Rewriting.{Rewrites}
 use Rattle.rewriting.proofs.Reread.{read-refused, read-taken}
 
@@ -25,14 +27,14 @@ told-same s t true f g = sym (ap (λ (x : List ℕ). same x t) (f refl) ∙ same
 told-same s t false f g = never-true (same s t) (λ e. let i = g (same-equal s t e) in let z : _≡_ {A = ℕ} 0 1 = cc in omega arith)
 
 -- A text that is longer than every plain text is none.
-pub too-long-for-plain : (text : List ℕ) → 20736 < length text → false ≡ isPlain text
+pub too-long-for-plain : (text : List ℕ) → greatestLength < length text → false ≡ isPlain text
 too-long-for-plain text l = never-true (isPlain text) (go (plainOf text) refl)
   where
     go : (o : Option Posology) → plainOf text ≡ o → isGiven o ≡ true → ⊥
     go none e h = let z : _≡_ {A = ℕ} 0 1 = cc in omega arith
     go (some p) e h =
         let i = plain-of-text text p e in
-        let s = plain-short p (i .is-valid) (i .fits) in
+        let s = plain-within bothUses p (i .is-valid) (i .fits) in
         let n = ap length (i .text-is) in
         omega arith
 

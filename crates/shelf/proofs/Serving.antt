@@ -16,11 +16,12 @@ use Rattle.document.specs.Plain.{plain}
 use Rattle.document.specs.Answer as R
 use Rattle.document.specs.Answer.{read}
 use Rattle.document.specs.Write.{greatestRoom}
+use Rattle.document.proofs.Lengths.{plain-within}
 use Rattle.rewriting.proofs.Reread.{ReadAs}
-use Rattle.shelf_list.specs.Shelf.{Entry, entry, isNumber, twoBytes, recordThen, size, used, laidOut, stands, Holds, entriesIn}
+use Rattle.shelf_list.specs.Shelf.{bothUses, Entry, entry, isNumber, twoBytes, recordThen, size, used, laidOut, stands, Holds, entriesIn}
 use Rattle.shelf_list.specs.Calls.{Call, put, remove, at, Answer, stored, removed, standing, refused, answers, without, roomFor, onList, laidAgain, onArea, Outcome, Serves}
 use Rattle.shelf_list.specs.Grounds.{NoNumber, for-put, for-remove, text-put, too-long}
-use Rattle.shelf_list.proofs.Records.{plain-short, good-parts}
+use Rattle.shelf_list.proofs.Records.{good-parts}
 use Rattle.shelf_list.proofs.Lists.{read-good}
 use Rattle.shelf_list.proofs.Edits.{put-writes, remove-moves}
 use Rattle.shelf_list.proofs.Grounds.{gives-21, gives-22, gives-23, gives-24, gives-reading}
@@ -137,7 +138,7 @@ module _ (a after : List ℕ) (es : List Entry) (number purpose : ℕ) (text : L
       let o = on-shelf c a es h ∙ ap (laidAgain (length a)) (on-list-put (length a) es number purpose text p i s k e) in
       let good = read-good number purpose text p i k in
       let g = good-parts it good in
-      let short = plain-short p (g .is-valid) (g .fits) in
+      let short = plain-within bothUses p (g .is-valid) (g .fits) in
       let b = hasRoom (used es) (plain p) a in
       record {
         result = st .answer ∙ cond-true b (stored (length (plain p))) (refused 24 0) e ∙ sym (ap (λ (x : Outcome (List ℕ)). x .answer) o);

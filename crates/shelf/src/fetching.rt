@@ -3,8 +3,8 @@ use crate::answers::refusal;
 use crate::plain_text::BOTH_USES;
 use crate::survey::go_over;
 use document::table::Answer;
+use document::table::LONGEST_PLAIN;
 use document::table::Reading;
-use rewriting::PLAIN;
 use shelf_bytes::HEAD;
 ghost use mathlib.Core.Path.{_≡_};
 ghost use Rattle.document.specs.Values.{answerValues, number};
@@ -20,7 +20,7 @@ pub enum Found {
 pub fn find(area: &[u8], number: u64) -> Found
     ensures { λ r. ⌜ r ≡ found (now (area .entry)) number ⌝ }
 {
-    let mut scratch = [0u8; PLAIN];
+    let mut scratch = [0u8; LONGEST_PLAIN];
     let s = go_over(area, number, 0, &mut scratch);
     let n = refusal(s, number);
     if n != 0 {

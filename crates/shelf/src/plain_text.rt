@@ -1,6 +1,6 @@
 // "a text that is no plain text for use 3": read, put again, and compared.
+use document::table::LONGEST_PLAIN;
 use document::table::Writing;
-use rewriting::PLAIN;
 ghost use mathlib.Core.Path.{_≡_};
 ghost use Prim.Native.Nat.{_≤_};
 ghost use lib.ListN.{length, take};
@@ -19,10 +19,10 @@ fn agree(out: &[u8], n: usize, text: &[u8]) -> bool
 }
 
 // A text that is longer than every plain text is not read.
-pub(crate) fn is_plain(text: &[u8], scratch: &mut [u8; PLAIN]) -> bool
+pub(crate) fn is_plain(text: &[u8], scratch: &mut [u8; LONGEST_PLAIN]) -> bool
     ensures { λ r. ⌜ r ≡ isPlain (now (text .entry)) ⌝ }
 {
-    if PLAIN < text.len() {
+    if LONGEST_PLAIN < text.len() {
         return false;
     }
     let w = rewriting::rewrite(text, BOTH_USES, scratch);

@@ -2,8 +2,8 @@
 use crate::answers::PutAnswer;
 use crate::answers::refusal;
 use crate::survey::go_over;
+use document::table::LONGEST_PLAIN;
 use document::table::Writing;
-use rewriting::PLAIN;
 ghost use mathlib.Core.Path.{_≡_};
 ghost use Rattle.shelf_list.specs.Calls.{put, refused, Serves};
 ghost use Rattle.shelf.specs.Answers.{putAnswer, StoresPlain};
@@ -32,7 +32,7 @@ fn store(area: &mut [u8], used: usize, number: u64, plain: &[u8]) -> PutAnswer
 pub fn put(area: &mut [u8], number: u64, text: &[u8], purpose: u64) -> PutAnswer
     ensures { λ r. ⌜ Serves (put number purpose (now (text .entry))) (now (area .entry)) (putAnswer r) (now (area .exit)) ⌝ }
 {
-    let mut scratch = [0u8; PLAIN];
+    let mut scratch = [0u8; LONGEST_PLAIN];
     let s = go_over(area, number, 0, &mut scratch);
     let n = refusal(s, number);
     if n != 0 {

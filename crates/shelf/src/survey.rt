@@ -1,6 +1,6 @@
 // Going over an area once: whether it is a shelf, and what the calls ask of it.
 use crate::plain_text::is_plain;
-use rewriting::PLAIN;
+use document::table::LONGEST_PLAIN;
 use shelf_bytes::HEAD;
 use shelf_bytes::head_at;
 use shelf_bytes::note;
@@ -79,7 +79,7 @@ fn with_record(s: Survey, n: usize, size: usize, number: u64, position: u64) -> 
 }
 
 // The bytes of the record at a place, whose number has not stood before and is noted: 0 where there is none.
-fn record_at(area: &[u8], at: usize, set: &mut [u64], scratch: &mut [u8; PLAIN]) -> usize
+fn record_at(area: &[u8], at: usize, set: &mut [u64], scratch: &mut [u8; LONGEST_PLAIN]) -> usize
     ensures { λ r. ⌜ Passes (now (set .entry)) (now (area .entry)) at r (now (set .exit)) ⌝ }
 {
     let n = head_at(area, at);
@@ -99,7 +99,12 @@ fn record_at(area: &[u8], at: usize, set: &mut [u64], scratch: &mut [u8; PLAIN])
 }
 
 // One pass: what stands behind the records is looked at where a record ends with a zero behind it.
-pub(crate) fn go_over(area: &[u8], number: u64, position: u64, scratch: &mut [u8; PLAIN]) -> Survey
+pub(crate) fn go_over(
+    area: &[u8],
+    number: u64,
+    position: u64,
+    scratch: &mut [u8; LONGEST_PLAIN],
+) -> Survey
     ensures { λ r. ⌜ r ≡ surveyed number position (entriesIn (now (area .entry))) ⌝ }
 {
     if AREA < area.len() {

@@ -19,7 +19,7 @@ use Rattle.document.specs.Write.{greatestRoom}
 use Rattle.document.proofs.Same.{same-refl, same-equal}
 use Rattle.document.proofs.Spelled.{accepted-spells}
 use Rattle.document.proofs.PlainTexts.{plain-reads}
-use Rattle.document.proofs.Lengths.{plain-at-most}
+use Rattle.document.proofs.Lengths.{plain-within}
 use Rattle.shelf_list.specs.Shelf.{Entry, entry, isNumber, bothUses, recordThen, size, once, goodEntry, good, ifPlain, plainOf, numberAt, begins}
 
 -- What makes an entry good, part by part.
@@ -78,9 +78,6 @@ plain-of-text text p h = go (read bothUses greatestRoom text) refl h
         let a = accepted-spells bothUses greatestRoom text q e in
         subst (λ (x : Posology). IsPlain text x) (s .1) (record { text-is = s .0; is-valid = a .1 .1; fits = a .3 })
     go (refused n place) e k = never (cc)
-
-pub plain-short : (p : Posology) → valid bothUses p ≡ true → Fits greatestRoom p → length (plain p) ≤ 20736
-plain-short p v f = let a = plain-at-most bothUses p [] v f in omega arith
 
 -- A head and the bytes that it speaks of, part by part.
 pub record Begun (a : List ℕ) : Type 0 where
@@ -147,7 +144,7 @@ module _ (e : Entry) (k : List ℕ) (g : GoodParts e) where
   unfolding recordThen
   record-begun =
       let l = length-append (plain (e .posology)) k in
-      let s = plain-short (e .posology) (g .is-valid) (g .fits) in
+      let s = plain-within bothUses (e .posology) (g .is-valid) (g .fits) in
       let low = g .least in
       let high = g .most in
       record {

@@ -3,6 +3,7 @@
 mod named;
 mod runs;
 
+use document::table::TEXT_ROOM;
 use document::table::Table;
 use document::table::Writing;
 use std::num::wrapping_add_usize;
@@ -39,7 +40,7 @@ fn main() {
     let mut given = io::large_buffer();
     let mut out = io::large_buffer();
     let mut again = io::large_buffer();
-    let mut strings = [0u8; 2048];
+    let mut strings = [0u8; TEXT_ROOM];
     let n = io::read_full(0, &mut given);
     let at = named::lines(&given[..n], &mut strings, &mut out);
     runs::compare(part(&given, at, n), &mut strings, &mut out, &mut again);

@@ -1,10 +1,12 @@
 // Runs the reader over outside vectors on standard input, a line each: `read` or `run` (also `reads` or `runs`), the use, the text room, and the
 // bytes in hexadecimal. Answers `refused NUMBER PLACE`, `blank LENGTH`, or `ok`, for a run the end, then the number of records, the plain text and the
-// strings in hexadecimal; and says so where the plain text does not read back to itself. A line `walk` or `walkrun` is of the walk alone:
-// `2 PLACE`, `3 PLACE` or `taken`.
+// strings in hexadecimal; and says so where the plain text does not read back to itself. A line `length` answers the length of the plain text of
+// what is read, and its bound. A line `walk` or `walkrun` is of the walk alone: `2 PLACE`, `3 PLACE` or `taken`.
 use cases::Case;
 use document::table::Answer;
+use document::table::Measuring;
 use document::table::NextAnswer;
+use document::table::TEXT_ROOM;
 use document::table::Table;
 use document::table::Writing;
 use walk::End;
@@ -14,13 +16,15 @@ const RUN: u64 = 0x72756E;
 
 const RUNS: u64 = 0x72756E73;
 
+const LENGTH: u64 = 0x6C656E677468;
+
 const WALK: u64 = 0x77616C6B;
 
 const WALK_RUN: u64 = 0x77616C6B72756E;
 
 // Whether reading a plain text and writing what was read gives it again.
 fn comes_back(plain: &[u8], purpose: u64) -> bool {
-    let mut strings = [0u8; 2048];
+    let mut strings = [0u8; TEXT_ROOM];
     let mut again = io::large_buffer();
     let r = posology::read(plain, purpose, &mut strings);
     let t = r.table;
@@ -88,6 +92,28 @@ fn answer_run(run: &[u8], purpose: u64, strings: &mut [u8]) {
     }
 }
 
+fn say_length(t: Table, purpose: u64, strings: &[u8]) {
+    let m = writer::length(t, strings, purpose);
+    match m {
+        Measuring::Measured { length } => {
+            cases::say(b"ok ", length as u64);
+            cases::say(b" ", writer::longest(t.count, t.text) as u64);
+            cases::end_line();
+        }
+        Measuring::Refused { number, place } => cases::say_refused(number, place),
+    }
+}
+
+fn answer_length(text: &[u8], purpose: u64, strings: &mut [u8]) {
+    let r = posology::read(text, purpose, strings);
+    let t = r.table;
+    let a = r.answer;
+    match a {
+        Answer::Taken => say_length(t, purpose, strings),
+        Answer::Refused { number, place } => cases::say_refused(number, place),
+    }
+}
+
 fn say_walked(end: End) {
     match end {
         End::At(_) => {
@@ -106,6 +132,10 @@ fn answer(c: Case, text: &[u8], strings: &mut [u8]) {
     }
     if c.command == WALK_RUN {
         say_walked(walk::first_object(text));
+        return;
+    }
+    if c.command == LENGTH {
+        answer_length(text, c.first, strings);
         return;
     }
     if c.command == RUN || c.command == RUNS {

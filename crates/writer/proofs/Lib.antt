@@ -5,3 +5,4 @@ mod Printed
 mod PrintedDetail
 pub mod Written
 mod WordsWritten
+mod MeasuredLengths

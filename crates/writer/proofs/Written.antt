@@ -2,20 +2,20 @@
 use mathlib.Core.Path.{_≡_, refl, ap, sym, subst, _∙_}
 use mathlib.Core.List.{List, [], _++_, append-nil}
 use mathlib.Core.Bool.{Bool, true, false, cond}
-use Prim.Native.Nat.{ℕ, _+_, _*_, _≤_, _<_}
+use Prim.Native.Nat.{ℕ, _+_, _≤_, _<_}
 use native.Mathlib.Omega.{arith}
 use lib.Dec.{leb}
 use lib.ListN.{length, drop}
 use lib.Seq.{sets-eq}
 use borrow.Author.Tests.{le-leb, lt-leb}
 use Rattle.json.specs.Rows.{choose}
-use Rattle.document.specs.Valid.{isUse, detailRecords, strings}
-use Rattle.document.specs.Table.{tableOf}
+use Rattle.document.specs.Valid.{isUse}
 use Rattle.document.specs.Words.{allWords, rows}
 use Rattle.document.specs.Untable.{posologyOf}
 use Rattle.document.specs.Plain.{plain, detailTree}
 use Rattle.document.specs.Values.{ends, number}
 use Rattle.document.specs.Write.{readable, writes, refuses, fitting, write, writeValues, bufferAfter, Writes}
+use Rattle.document.specs.Length.{bound}
 use Rattle.document.specs.Answer.{laid}
 use Rattle.document.specs.declared.table.Table.{Table}
 use Rattle.document.specs.declared.table.Text.{Text}
@@ -23,7 +23,7 @@ use Rattle.document.specs.declared.table.Writing.{Writing}
 use Rattle.document.specs.declared.table.Writing.the-variants.{Written, Refused}
 use Rattle.document.proofs.Untables.{detail-append}
 use Rattle.document.proofs.Untabled.{bytesOf, strings-append}
-use Rattle.document.proofs.Lengths.{plain-length}
+use Rattle.document.proofs.TableLengths.{readable-length}
 use Rattle.checking.specs.Readable.{PieceAt, absent, present}
 use Rattle.checking.proofs.Read.{readable-laid}
 use Rattle.document.proofs.ValidParts.{valid-parts}
@@ -90,15 +90,8 @@ module _ (purpose : ℕ) (t : Table) (buffer : List ℕ) (n : length (t .records
   unfolding posologyOf
   plainly = sym (head-plain (posologyOf t buffer) (t .head) buffer [] refl refl refl refl refl refl refl refl (writable .from) (writable .to))
 
-  pub short : length (headFields buffer (t .head) (detailTree (posologyOf t buffer .po)) []) ≤ 6 * t .text + 128 * t .count + 256
-  unfolding tableOf
-  short =
-      let s = readable-stands purpose t buffer n h in
-      let most = plain-length purpose (s .is) (s .valid) in
-      let e = ap length (plainly ∙ ap plain (s .read)) in
-      let text : t .text ≡ length (strings (s .is)) = ap (λ (u : Table). u .text) (s .table) in
-      let count : t .count ≡ detailRecords (s .is .po) = ap (λ (u : Table). u .count) (s .table) in
-      omega arith
+  pub short : length (headFields buffer (t .head) (detailTree (posologyOf t buffer .po)) []) ≤ bound (t .count) (t .text)
+  short = let b = readable-length purpose t buffer h .0 in let e = ap length plainly in omega arith
 
 -- What is written where the use and the table are right or not.
 by : (purpose : ℕ) (t : Table) (buffer : List ℕ) (room : ℕ) (a b : Bool) → isUse purpose ≡ a → readable purpose t buffer ≡ b → write purpose t buffer room ≡ choose a (λ _. choose b (λ _. fitting room (plain (posologyOf t buffer))) λ _. refuses 18 0) λ _. refuses 17 0

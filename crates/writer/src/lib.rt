@@ -1,6 +1,11 @@
 // Writing a table (document 01, "Answers by number": 17, 18, 19).
+mod measuring;
+
 use checking::is_readable;
 use document::table::Head;
+use document::table::LONGEST_PLAIN;
+use document::table::RECORDS;
+use document::table::TEXT_ROOM;
 use document::table::Table;
 use document::table::WORDS;
 use document::table::Writing;
@@ -8,22 +13,28 @@ use document::uses::is_use;
 use words::table_words;
 ghost use mathlib.Core.Path.{_≡_};
 ghost use mathlib.Core.List.{[]};
-ghost use Prim.Native.Nat.{_+_, _*_, _≤_};
+ghost use Prim.Native.Nat.{_≤_};
 ghost use lib.ListN.{length};
 ghost use Rattle.json.specs.Tree.{Tree};
 ghost use Rattle.document.specs.Write.{Writes};
+ghost use Rattle.document.specs.Length.{bound, longest};
 ghost use Rattle.putting.specs.Puts.{greatestPlace};
 ghost use Rattle.details.specs.Prints.{DetailPrints};
 ghost use Rattle.plain.specs.Heads.{headFields, Writable};
 ghost use Rattle.writer.specs.Fits.{Fits};
 ghost use Rattle.writer.specs.ByWords.{WritesWords};
+pub use measuring::length;
 
-// As long as a table's plain text is at most (document 02, Wish 10).
-fn longest(count: usize, text: usize) -> usize
-    requires { ⌜ (count ≤ 64) × (text ≤ 2048) ⌝ }
-    ensures { λ r. ⌜ r ≡ 6 * text + 128 * count + 256 ⌝ }
+// As long as the plain text of a table with so many records and text bytes is at most (document 02, Wish 10).
+pub fn longest(count: usize, text: usize) -> usize
+    ensures { λ r. ⌜ r ≡ longest count text ⌝ }
 {
-    6 * text + 128 * count + 256
+    if count <= RECORDS {
+        if text <= TEXT_ROOM {
+            return 6 * text + 128 * count + 256;
+        }
+    }
+    LONGEST_PLAIN
 }
 
 // The text is measured before it is laid: one that does not fit changes nothing.
@@ -52,7 +63,7 @@ fn write_fitting(
     out: &mut [u8],
 ) -> Writing
     requires { ⌜ (count ≤ 64) × (text ≤ 2048) ⌝ }
-    ensures { λ r. ⌜ ((t : Tree) → Writable (now (strings .entry)) h → DetailPrints (now (words .entry)) (now (strings .entry)) 3 0 t → length (headFields (now (strings .entry)) h t []) ≤ 6 * text + 128 * count + 256 → Fits (headFields (now (strings .entry)) h t []) (now (out .entry)) r (now (out .exit))) ⌝ }
+    ensures { λ r. ⌜ ((t : Tree) → Writable (now (strings .entry)) h → DetailPrints (now (words .entry)) (now (strings .entry)) 3 0 t → length (headFields (now (strings .entry)) h t []) ≤ bound count text → Fits (headFields (now (strings .entry)) h t []) (now (out .entry)) r (now (out .exit))) ⌝ }
 {
     if longest(count, text) <= out.len() {
         return Writing::Written {

@@ -6,7 +6,9 @@ use lib.ListN.{length}
 use Rattle.document.specs.Values.{writingValues}
 use Rattle.document.specs.Plain.{plain}
 use Rattle.document.specs.Write.{writeValues, bufferAfter, Write}
-use Rattle.lines.proofs.Printed.{line-written, line-refused, refused-near, plain-fitting, plain-near}
+use Rattle.document.proofs.Lengths.{plain-within}
+use Rattle.lines.specs.Lines.{forPlan}
+use Rattle.lines.proofs.Printed.{line-written, line-refused, refused-near, plain-fitting}
 use borrow.Author.Needs.{needs}
 use Rattle.lines.proofs.put_plain.Statement.{statement}
 use Rattle.lines.proofs.put_plain.Tie as tie
@@ -50,7 +52,7 @@ returns-2 c p behind v f t s =
     let w = wrote .write .ensures in
     let x = plain-fitting p behind (length (args .out .now)) v f t s in
     let told = ap writingValues (sym (c .before .before .before .before .before .number .given .1)) ∙ w .answer ∙ ap writeValues x in
-    let near = refused-near (length (args .out .now)) (plain p) told (plain-near p v f) in
+    let near = refused-near (length (args .out .now)) (plain p) told (plain-within forPlan p (v .1) f) in
     line-refused (length (args .out .now)) (plain p) told (w .left ∙ ap (λ (y : Write). bufferAfter y (args .out .now)) x)
     (c .before .before .put-refusal .ensures (near .0) (near .1))
 

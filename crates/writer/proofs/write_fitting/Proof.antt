@@ -2,6 +2,7 @@
 use native.Mathlib.Omega.{arith}
 use borrow.Author.Needs.{needs}
 use Rattle.writer.proofs.Written.{put-fits}
+use Rattle.writer.proofs.MeasuredLengths.{longest-bound}
 use Rattle.writer.proofs.write_fitting.Statement.{statement}
 use Rattle.writer.proofs.write_fitting.Tie as tie
 
@@ -15,7 +16,10 @@ same-length : tie.Need-same-length
 same-length c = search needs
 
 returns : tie.Need-returns
-returns c = λ t w d s. put-fits (c .before .before .put-posology .ensures t w d) (omega arith) (omega arith)
+returns c =
+    let start = c .before .before .before .before .before .before .before .before .before in
+    let most = longest-bound (start .args .count) (start .args .text) (start .pre .0) (start .pre .1) in
+    λ t w d s. put-fits (c .before .before .put-posology .ensures t w d) (omega arith) (omega arith)
 
 write-measured-requires : tie.Need-write-measured-requires
 write-measured-requires c κs = search needs
