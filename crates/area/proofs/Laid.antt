@@ -5,7 +5,7 @@ use mathlib.Core.List.{List, [], _∷_, _++_}
 use native.Mathlib.Omega.{arith}
 use lib.ListN.{length, length-append}
 use lib.Seq.{sets, length-sets}
-use Rattle.document.specs.Words.{dateWords, headWords}
+use Rattle.document.specs.Words.{wordsAtMost, dateWords, headWords}
 use Rattle.document.specs.declared.table.Date.{Date}
 use Rattle.document.specs.declared.table.Date.the-variants as D
 use Rattle.document.specs.declared.table.Head.{Head}
@@ -29,7 +29,7 @@ date-length (D.Moment y m d s west z) k = omega arith
 pub head-length : (h : Head) (m n : ℕ) → length (headWords h (m ∷ n ∷ [])) ≡ 26
 head-length h m n = date-length (h .from) _ ∙ ap (λ (i : ℕ). i + 7) (date-length (h .to) _)
 
-pub laid-out : (h : Head) (m n : ℕ) (ws a b c hs : List ℕ) → length a ≡ 3280 → length ws ≡ 384 → hs ≡ headWords h (m ∷ n ∷ []) → (0 + length hs * 8 ≤ length a → b ≡ sets a 0 (allBytes hs)) → (208 + length ws * 8 ≤ length b → c ≡ sets b 208 (allBytes ws)) → c ≡ allBytes (headWords h (m ∷ n ∷ ws))
+pub laid-out : (h : Head) (m n : ℕ) (ws a b c hs : List ℕ) → length a ≡ 3280 → length ws ≡ wordsAtMost → hs ≡ headWords h (m ∷ n ∷ []) → (0 + length hs * 8 ≤ length a → b ≡ sets a 0 (allBytes hs)) → (208 + length ws * 8 ≤ length b → c ≡ sets b 208 (allBytes ws)) → c ≡ allBytes (headWords h (m ∷ n ∷ ws))
 laid-out h m n ws a b c hs l k e p q =
     let all : hs ++ ws ≡ headWords h (m ∷ n ∷ ws) = ap (λ (x : List ℕ). x ++ ws) e ∙ head-front h _ _ in
     let front : length hs ≡ 26 = ap length e ∙ head-length h m n in

@@ -5,7 +5,7 @@ use mathlib.Core.Bool.{Bool}
 use lib.Dec.{eqb}
 use lib.ListN.{drop, getD}
 use Rattle.document.specs.Lookup.{same}
-use Rattle.document.specs.Words.{tableWords}
+use Rattle.document.specs.Words.{width, tableWords}
 use Rattle.document.specs.declared.table.Text.{Text}
 use Rattle.document.specs.declared.table.Date.{Date}
 use Rattle.document.specs.declared.table.Date.the-variants as D
@@ -54,7 +54,7 @@ headIn ws =
     }
 
 abbrev pub tableOfNumbers : List ℕ → Table
-tableOfNumbers ws = record { head = headIn ws; count = getD ws 24 0; text = getD ws 25 0; records = groups 6 recordIn 64 (drop 26 ws) }
+tableOfNumbers ws = record { head = headIn ws; count = getD ws 24 0; text = getD ws 25 0; records = groups width recordIn 64 (drop 26 ws) }
 
 -- The table that bytes would lay out.
 unfoldable pub tableIn : List ℕ → Table

@@ -4,7 +4,7 @@ use mathlib.Core.List.{List}
 use mathlib.Core.Bool.{true, false, true≢false, false≢true}
 use Prim.Native.Nat.{ℕ, _+_, _-_, _≤_, _<_}
 use native.Mathlib.Omega.{arith}
-use Rattle.words.specs.Standing.{tagAt, belowAt, bAt}
+use Rattle.table_rows.specs.Standing.{tagAt, belowAt, bAt}
 use Rattle.doses.specs.Doses.{Row, Nested, StillAt, daily, single, cyclic}
 use Rattle.checking.specs.Checks.{Checks, FreeTextAt, DetailAt, still, freeText, sequence, ObjectAt, pause, posology, ObjectsAt, last, more, SequenceAt}
 use Rattle.checking.specs.declared.check.Checked.{Checked}

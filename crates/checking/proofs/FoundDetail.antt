@@ -17,8 +17,8 @@ use Rattle.document.specs.Table.{row, detailRows, objectRows, objectsRows}
 use Rattle.document.specs.Words.{recordWords, allWords}
 use Rattle.document.specs.declared.table.Record.{Record}
 use Rattle.document.specs.declared.table.Kind.the-variants as K
-use Rattle.words.specs.Standing.{belowAt, bAt, At, Lies}
-use Rattle.doses.proofs.Lies.{moved}
+use Rattle.table_rows.specs.Standing.{belowAt, bAt, At, Lies}
+use Rattle.table_rows.proofs.Standing.{moved}
 use Rattle.document.proofs.Ranges.{in-range}
 use Rattle.document.proofs.DetailParts.{daily-parts, text-parts, cyclic-parts, sequence-parts, posology-sequence-parts, pause-parts, objects-parts}
 use Rattle.document.proofs.Untables.{joined-append}

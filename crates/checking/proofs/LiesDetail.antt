@@ -15,9 +15,10 @@ use Rattle.document.specs.Words.{allWords}
 use Rattle.document.specs.declared.table.Record.{Record}
 use Rattle.document.proofs.Strings.{some-of-length}
 use Rattle.document.proofs.Untables.{joined-append}
-use Rattle.words.specs.Standing.{belowAt, aAt, bAt, cAt, dAt, Lies}
+use Rattle.table_rows.specs.Standing.{belowAt, aAt, bAt, cAt, dAt, Lies}
 use Rattle.json.proofs.Truth.{and-both}
-use Rattle.doses.proofs.Lies.{moved, single-is, cyclic-is}
+use Rattle.table_rows.proofs.Standing.{moved}
+use Rattle.doses.proofs.Lies.{single-is, cyclic-is}
 use Rattle.doses.specs.Doses.{Row, Nested, StillAt, daily, single, cyclic}
 use Rattle.checking.specs.Checks.{FreeTextAt, DetailAt, still, freeText, sequence, ObjectAt, pause, posology, ObjectsAt, last, more}
 

@@ -8,22 +8,22 @@ use lib.ListN.{length, drop, replicate, length-append, length-replicate}
 use Rattle.document.specs.Posology.{Posology}
 use Rattle.document.specs.Valid.{detailRecords, detailStrings, strings}
 use Rattle.document.specs.Table.{noRecord, lengthOf, detailRows, headOf, tableOf}
-use Rattle.document.specs.Words.{allWords, rows}
+use Rattle.document.specs.Words.{width, wordsAtMost, allWords, rows}
 use Rattle.document.specs.Untable.{dateOf, mealOf}
 use Rattle.document.specs.Write.{readable}
 use Rattle.document.specs.declared.table.Head.{Head}
 use Rattle.document.specs.declared.table.Table.{Table}
 use Rattle.document.proofs.Untables.{detail-append}
-use Rattle.document.proofs.Parts.{unit-text}
-use Rattle.document.proofs.ValidParts.{ValidParts, valid-parts, parts-valid}
+use Rattle.document.proofs.ValidParts.{ValidParts, valid-parts, parts-valid, unit-text}
 use Rattle.document.proofs.Untabled.{bytesOf, strings-append, detail-rows, detail-length}
 use Rattle.document.proofs.Strings.{strings-size}
 use Rattle.document.proofs.Tables.{own-readable}
-use Rattle.words.specs.Standing.{Lies}
-use Rattle.words.proofs.Rowed.{rows-length}
+use Rattle.table_rows.specs.Standing.{Lies}
+use Rattle.document.proofs.WordRows.{all-length, records-length}
+use Rattle.table_rows.proofs.Standing.{lies-rows}
 use Rattle.checking.proofs.LiesDetail.{DetailIs, detail-is}
 use Rattle.checking.proofs.FoundDetail.{detail-found}
-use Rattle.checking.proofs.Laid.{all-length, unused-zero, zeros-lie, lies-rows}
+use Rattle.checking.proofs.Laid.{unused-zero, zeros-lie}
 use Rattle.checking.proofs.Stands.{records-of, readable-stands}
 use Rattle.checking.proofs.Pieces.{PieceIs, piece-is, piece-found, piece-behind, unit-for}
 use Rattle.checking.proofs.HeadValues.{cell-date, cell-meal, valid-meal, same-head, head-right}
@@ -67,17 +67,17 @@ module _ (purpose : ℕ) (p : Posology) (n : ValidParts purpose p) (buffer behin
       let s = f .sum [] in
       let c = f .count in
       let k = detail-length (p .po) 0 [] in
-      let same : length rs * 6 ≡ detailRecords (p .po) * 6 = omega arith in
+      let same : length rs * width ≡ detailRecords (p .po) * width = omega arith in
       let filled = simp (length-append, length-replicate) at (ap length (records-of p few)) in
       record {
-        all = omega (arith, rows-length (tableOf p .records));
+        all = omega (arith, records-length (tableOf p .records));
         room = room;
         fits = few;
         counted = omega arith;
         taken = f .taken;
         detail = f .at;
         pieces = pieces-found (f .taken) (omega arith) (f .behind);
-        zeros = subst (Zeros ws) same (subst (λ x. Zeros (rows (allWords x)) (length rs * 6)) (sym (records-of p few)) (unused-zero rs (64 - length rs)));
+        zeros = subst (Zeros ws) same (subst (λ x. Zeros (rows (allWords x)) (length rs * width)) (sym (records-of p few)) (unused-zero rs (64 - length rs)));
       }
 
 pub readable-laid : (purpose : ℕ) (t : Table) (buffer : List ℕ) → length (t .records) ≡ 64 → readable purpose t buffer ≡ true
@@ -138,7 +138,7 @@ module _ (ws buffer : List ℕ) (h : Head) (taken u₁ u₂ u₃ text : ℕ) (d 
       (c .bytes ∙ ap (λ s. bytesOf (c .value) ++ s) (m .bytes))))
       ∙ sym (strings-append value (drop text buffer))
 
-  value-rows : detailRecords (d .value) ≤ 64 → length ws ≡ 384 → Zeros ws (detailRecords (d .value) * 6) → ws ≡ rows (allWords (tableOf value .records))
+  value-rows : detailRecords (d .value) ≤ 64 → length ws ≡ wordsAtMost → Zeros ws (detailRecords (d .value) * width) → ws ≡ rows (allWords (tableOf value .records))
   value-rows few n z =
       let size = 64 - length (detailRows (d .value) 0 []) in
       let k = replicate size noRecord in
@@ -149,13 +149,13 @@ module _ (ws buffer : List ℕ) (h : Head) (taken u₁ u₂ u₃ text : ℕ) (d 
       lies-rows ws (allWords rs) 0 (omega arith) (d .lies k (zeros-lie ws count size (0 + count) n z (omega arith) (omega arith)))
       ∙ ap (λ x. rows (allWords x)) (detail-rows (d .value) 0 k ∙ sym (records-of value few))
 
-  value-words : (purpose count : ℕ) → HeadRight h purpose → detailRecords (d .value) ≡ count → count ≤ 64 → text ≤ 2048 → length ws ≡ 384
-      → Zeros ws (count * 6) → ReadableWords purpose h count text ws buffer
+  value-words : (purpose count : ℕ) → HeadRight h purpose → detailRecords (d .value) ≡ count → count ≤ 64 → text ≤ 2048 → length ws ≡ wordsAtMost
+      → Zeros ws (count * width) → ReadableWords purpose h count text ws buffer
   unfolding tableOf
   value-words purpose count r f most room n z =
       let few : detailRecords (d .value) ≤ 64 = omega arith in
-      let same = value-rows few n (subst (λ x. Zeros ws (x * 6)) (sym f) z) in
-      let all : length (tableOf value .records) ≡ 64 = omega (arith, rows-length (tableOf value .records), ap length same) in
+      let same = value-rows few n (subst (λ x. Zeros ws (x * width)) (sym f) z) in
+      let all : length (tableOf value .records) ≡ 64 = omega (arith, records-length (tableOf value .records), ap length same) in
       let valid = parts-valid purpose value (value-parts purpose r) few in
       let own = own-readable purpose value (drop text buffer) valid (omega (arith, value-text)) in
       record {

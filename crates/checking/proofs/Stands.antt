@@ -15,9 +15,9 @@ use Rattle.document.specs.declared.table.Table.{Table}
 use Rattle.document.proofs.ValidParts.{few-records}
 use Rattle.document.proofs.Untabled.{detail-length, filled-is}
 use Rattle.document.proofs.Tables.{stands-for}
-use Rattle.words.specs.Standing.{Lies}
-use Rattle.words.proofs.Rowed.{rows-lie}
-use Rattle.checking.proofs.Laid.{all-length, front-lies}
+use Rattle.table_rows.specs.Standing.{Lies}
+use Rattle.document.proofs.WordRows.{all-length, all-append}
+use Rattle.table_rows.proofs.Standing.{rows-lie, front-lies}
 
 pub record Standing (purpose : ℕ) (t : Table) (buffer : List ℕ) : Type 0 where
   pub is : Posology
@@ -51,6 +51,6 @@ readable-stands purpose t buffer n h =
       fits = s .fits;
       behind = drop (length (strings p)) buffer;
       strings-first = sym (ap (λ x. x ++ drop (length (strings p)) buffer) (sym (s .strings-first)) ∙ take-append-drop (length (strings p)) buffer);
-      lies = front-lies (rows (allWords (t .records))) 0 rs rest (subst (λ x. Lies (rows (allWords (t .records))) 0 (allWords x)) (ap (λ u. u .records) (sym (s .table)) ∙ records-of p few) all);
+      lies = front-lies (rows (allWords (t .records))) 0 (allWords rs) (allWords rest) (subst (λ x. Lies (rows (allWords (t .records))) 0 x) (ap (λ u. allWords (u .records)) (sym (s .table)) ∙ ap allWords (records-of p few) ∙ all-append rs rest) all);
       few = few;
     }

@@ -13,7 +13,7 @@ use borrow.Author.Tests.{lt-ltb, le-ltb, ne-eqb}
 use Rattle.json.specs.Rows.{look}
 use Rattle.json.specs.Byte.{within}
 use Rattle.document.specs.Utf8.{followRows, goOn, wellFormed, isUtf8}
-use Rattle.document.proofs.Utf8Texts.{is-within}
+use Rattle.document.proofs.Utf8Tests.{is-within}
 use Rattle.checking.specs.Tails.{following, expects, unless, follows}
 use Rattle.checking.specs.declared.utf8.Tail.{Tail}
 

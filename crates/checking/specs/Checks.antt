@@ -6,7 +6,7 @@ use Prim.Native.Nat.{ℕ, _+_, _-_, _≤_, _<_}
 use lib.ListN.{length, take, drop, getD}
 use Rattle.document.specs.Schema.{greatestInteger}
 use Rattle.document.specs.Utf8.{isUtf8}
-use Rattle.words.specs.Standing.{belowAt, bAt}
+use Rattle.table_rows.specs.Standing.{belowAt, bAt}
 use Rattle.doses.specs.Doses.{Row, Nested, StillAt}
 use Rattle.checking.specs.declared.check.Checked.{Checked}
 

@@ -12,9 +12,10 @@ use Rattle.document.specs.Untable.{dateOf, zoneOf}
 use Rattle.document.specs.declared.table.Text.{Text}
 use Rattle.document.specs.declared.table.Head.{Head}
 use Rattle.document.specs.declared.table.Table.{Table}
+use Rattle.document.specs.Words.{width, wordsAtMost}
 use Rattle.document.specs.Write.{readable}
 use Rattle.words.specs.ByWords.{ByWords}
-use Rattle.words.specs.Standing.{belowAt}
+use Rattle.table_rows.specs.Standing.{belowAt}
 use Rattle.checking.specs.Checks.{StringAt, DetailAt, Zeros}
 
 abbrev pub momentIn : ℕ → Bool → ℕ → Bool
@@ -42,14 +43,14 @@ pub record HeadRight (h : Head) (purpose : ℕ) : Type 0 where
   pub unit : (purpose ≡ 3 → ⊥) → 1 ≤ h .unit .len
 
 pub record LaidAt (ws buffer : List ℕ) (h : Head) (count text : ℕ) : Type 0 where
-  pub all : length ws ≡ 384
+  pub all : length ws ≡ wordsAtMost
   pub room : text ≤ 2048
   pub fits : count ≤ 64
   pub counted : count ≡ 1 + belowAt ws 0
   pub taken : ℕ
   pub detail : DetailAt ws buffer 3 0 0 taken
   pub pieces : PiecesAt buffer h taken text
-  pub zeros : Zeros ws (count * 6)
+  pub zeros : Zeros ws (count * width)
 
 -- What the writer does not refuse with 18.
 pub record ReadableWords (purpose : ℕ) (h : Head) (count text : ℕ) (ws buffer : List ℕ) : Type 0 where

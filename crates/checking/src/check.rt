@@ -1,17 +1,18 @@
 // Whether words lay out the records of a valid posology (document 01, row 18).
 use crate::utf8;
+use document::table::WIDTH;
 use document::table::WORDS;
 use doses::MOST_BELOW;
 use doses::MOST_INTEGER;
-use doses::below;
 use doses::nested;
 use doses::row;
 use doses::still;
+use table_rows::below;
 ghost use mathlib.Core.Path.{_≡_};
 ghost use Prim.Native.Nat.{_+_, _*_, _<_, _≤_};
 ghost use lib.ListN.{length, take, drop};
 ghost use Rattle.document.specs.Utf8.{isUtf8};
-ghost use Rattle.words.specs.Standing.{bAt};
+ghost use Rattle.document.specs.Words.{width, wordsAtMost};
 ghost use Rattle.doses.specs.Doses.{Decides};
 ghost use Rattle.checking.specs.Checks.{Checks, StringAt, FreeTextAt, DetailAt, ObjectAt, ObjectsAt, SequenceAt, Zeros};
 
@@ -19,13 +20,6 @@ ghost use Rattle.checking.specs.Checks.{Checks, StringAt, FreeTextAt, De
 pub struct Checked {
     pub good: bool,
     pub text: usize,
-}
-
-fn text_length(words: &[u64; WORDS], i: usize) -> usize
-    requires { ⌜ i < 64 ⌝ }
-    ensures { λ r. ⌜ r ≡ bAt (now (words .entry)) i ⌝ }
-{
-    words[i * 6 + 3] as usize
 }
 
 // Whether so many bytes of the buffer behind the first `text` are UTF-8.
@@ -84,7 +78,7 @@ fn free_text(words: &[u64; WORDS], i: usize, buffer: &[u8], text: usize) -> bool
         0,
         0,
     ) {
-        let len = text_length(words, i);
+        let len = table_rows::b(words, i) as usize;
         if utf8_part(buffer, text, len) {
             return true;
         }
@@ -214,7 +208,7 @@ pub(crate) fn detail(
         };
     }
     if free_text(words, i, buffer, text) {
-        let len = text_length(words, i);
+        let len = table_rows::b(words, i) as usize;
         return Checked {
             good: true,
             text: text + len,
@@ -225,10 +219,10 @@ pub(crate) fn detail(
 
 // The words from record i on are zero. They are looked at without an exit between them, so that a processor takes several at once.
 pub(crate) fn unused(words: &[u64], i: usize) -> bool
-    requires { ⌜ (length (now words) ≡ 384) × (i ≤ 64) ⌝ }
-    ensures { λ r. ⌜ Decides (Zeros (now (words .entry)) (i * 6)) r ⌝ }
+    requires { ⌜ (length (now words) ≡ wordsAtMost) × (i ≤ 64) ⌝ }
+    ensures { λ r. ⌜ Decides (Zeros (now (words .entry)) (i * width)) r ⌝ }
 {
-    let mut at = i * 6;
+    let mut at = i * WIDTH;
     let mut zero = true;
     while at < words.len() {
         zero = zero & (words[at] == 0);

@@ -10,7 +10,7 @@ use document::table::RECORDS;
 use document::table::TEXT_ROOM;
 use document::table::Text;
 use document::table::WORDS;
-use doses::below;
+use table_rows::below;
 ghost use mathlib.Core.Path.{_≡_};
 ghost use Rattle.document.specs.Date.{isDate};
 ghost use Rattle.document.specs.Valid.{ifGiven};

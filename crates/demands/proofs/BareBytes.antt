@@ -10,7 +10,7 @@ use Rattle.json.specs.Grammar.{Blanks, here, blank}
 use Rattle.json.proofs.Truth.{and-right, and-left, never}
 use Rattle.moving.specs.Moving.{firstByte}
 use Rattle.spelling.proofs.Bytes.{blank-not-numeric}
-use Rattle.document.proofs.Numerals.{Ends}
+use Rattle.meaning.proofs.Numerals.{Ends}
 use Rattle.demands.specs.Blanks.{bare, bareQuoted, bareEscaped, inWord, mayPart, wholeAfter, wholeQuoted}
 
 -- One step of each, by whether the byte is a blank, a quote, a backslash.

@@ -13,9 +13,9 @@ use Rattle.spelling.proofs.Spells.{one-tree, sound}
 use Rattle.document.specs.Posology.{Posology}
 use Rattle.document.specs.Same.{unplaced}
 use Rattle.document.specs.Answer.{textAtMost, taken, read, takenTo, readNext}
-use Rattle.document.proofs.Texts.{read-taken}
-use Rattle.document.proofs.Spelled.{reordered-taken}
-use Rattle.document.proofs.Moves.{moved}
+use Rattle.meaning.proofs.Texts.{read-taken}
+use Rattle.meaning.proofs.Spelled.{reordered-taken}
+use Rattle.meaning.proofs.Moves.{moved}
 use Rattle.demands.specs.Blanks.{bare, whole, between}
 use Rattle.demands.proofs.BareAgain.{bare-again, bare-whole}
 use Rattle.demands.proofs.WholeTexts.{text-whole}

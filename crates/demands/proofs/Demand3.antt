@@ -19,11 +19,11 @@ use Rattle.document.specs.Same.{Reordered, unplaced}
 use Rattle.document.specs.Answer.{taken, read, textAtMost, takenTo, readNext}
 use Rattle.document.specs.Write.{greatestRoom}
 use Rattle.document.specs.Length.{greatestLength}
-use Rattle.document.proofs.Spelled.{reordered-taken, next-spells, spelled-next}
-use Rattle.document.proofs.Moves.{moved}
-use Rattle.document.proofs.NextTexts.{reordered-next}
-use Rattle.document.proofs.PlainThen.{plain-then}
-use Rattle.document.proofs.PlainTexts.{plain-next}
+use Rattle.meaning.proofs.Spelled.{reordered-taken, next-spells, spelled-next}
+use Rattle.meaning.proofs.Moves.{moved}
+use Rattle.meaning.proofs.NextTexts.{reordered-next}
+use Rattle.meaning.proofs.PlainThen.{plain-then}
+use Rattle.meaning.proofs.PlainTexts.{plain-next}
 use Rattle.demands.specs.Runs.{writeAll, plainTexts, Ended, posologies, readAll, endings, AllValid, AllWithin, RunOf, Reorders, Says}
 use Rattle.demands.proofs.WholeRuns.{run-read, run-made, takes-spelled}
 use Rattle.demands.proofs.PlainRuns.{takes-reordered, texts-run, texts-read, texts-one}

@@ -17,7 +17,7 @@ use Rattle.spelling.proofs.Bytes.{apart, onward-numeric, numeric-not-blank}
 use Rattle.spelling.specs.Leading.{Leading, leading}
 use Rattle.spelling.proofs.Trees.{text-leading, leading-text}
 use Rattle.document.specs.Same.{unplaced, unplacedMembers, unplacedElements}
-use Rattle.document.proofs.Numerals.{Ends}
+use Rattle.meaning.proofs.Numerals.{Ends}
 use Rattle.demands.specs.Blanks.{bare, bareQuoted, inWord, mayPart, wholeAfter, whole}
 use Rattle.demands.proofs.BareBytes.{wholeStep, bare-byte, bare-blanks, next-byte, next-quote, next-in-word, ends-same, all-blanks}
 use Rattle.demands.proofs.BareStrings.{chars-same}

@@ -12,9 +12,9 @@ use Rattle.document.specs.Posology.{Posology}
 use Rattle.document.specs.Same.{Reordered}
 use Rattle.document.specs.Visit.{done, visit}
 use Rattle.document.specs.Answer.{textAtMost, takenTo, readNext}
-use Rattle.document.proofs.Moves.{moved, reordered-depth}
-use Rattle.document.proofs.Reorder.{visit-reordered}
-use Rattle.document.proofs.NextTexts.{next-taken, taken-next, behind-leading}
+use Rattle.meaning.proofs.Moves.{moved, reordered-depth}
+use Rattle.meaning.proofs.Reorder.{visit-reordered}
+use Rattle.meaning.proofs.NextTexts.{next-taken, taken-next, behind-leading}
 use Rattle.demands.specs.Blanks.{bare, whole}
 use Rattle.demands.proofs.Respaced.{respaced-leading}
 

@@ -15,8 +15,8 @@ use Rattle.document.specs.Posology.{Posology}
 use Rattle.document.specs.Valid.{Valid, Fits, isUse}
 use Rattle.document.specs.Write.{greatestRoom}
 use Rattle.document.specs.Answer.{ReadNext, takenTo, blankTo, refusedAt, nextBegun, readNext, textAtMost}
-use Rattle.document.proofs.NextTexts.{behind-next}
-use Rattle.document.proofs.Spelled.{next-spells, spelled-next}
+use Rattle.meaning.proofs.NextTexts.{behind-next}
+use Rattle.meaning.proofs.Spelled.{next-spells, spelled-next}
 use Rattle.demands.specs.Runs.{Ended, ended, posologies, andThen, onward, readFrom, AllValid, no-posology, next-posology, RunOf, only-blanks, text-then, Says}
 use Rattle.demands.proofs.RefusalCases.{blank-by}
 

@@ -15,8 +15,8 @@ use Rattle.document.specs.Plain.{plain}
 use Rattle.document.specs.Valid.{Valid, Fits, strings}
 use Rattle.document.specs.Write.{Write, writes, refuses, write, fitting, greatestRoom}
 use Rattle.document.specs.Length.{greatestLength}
-use Rattle.document.proofs.Lengths.{plain-within}
-use Rattle.document.proofs.PlainThen.{plain-then}
+use Rattle.meaning.proofs.Lengths.{plain-within}
+use Rattle.meaning.proofs.PlainThen.{plain-then}
 use Rattle.document.proofs.Tables.{own-written}
 use Rattle.demands.specs.Runs.{inFront, writeAll, plainTexts, AllValid, no-posology, next-posology, AllWithin, no-text, next-text}
 

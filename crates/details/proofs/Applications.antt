@@ -4,7 +4,7 @@ use mathlib.Core.List.{List}
 use Prim.Native.Nat.{ℕ, _+_, _%_, _<_, _≤_}
 use native.Mathlib.Omega.{arith}
 use Rattle.json.specs.Tree.{Elements, noElement}
-use Rattle.words.specs.Standing.{tagAt, aAt}
+use Rattle.table_rows.specs.Standing.{tagAt, aAt}
 use Rattle.details.specs.Prints.{Prints, DosagePrints, ApplicationPrints, atTime, inSegment, ApplicationsPrint, none, more}
 use Rattle.putting.proofs.Laid.{puts-then, puts-as}
 use Rattle.details.proofs.Pieces.{PutsBytes, PutsWhole, PutsTime}

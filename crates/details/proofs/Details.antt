@@ -11,7 +11,7 @@ use Rattle.document.specs.Bytes.{bytes}
 use Rattle.document.specs.Schema.{greatestInteger}
 use Rattle.document.specs.Spell.{spell, moreMembers}
 use Rattle.document.specs.Plain.{whole, textTree, fieldIf}
-use Rattle.words.specs.Standing.{tagAt, belowAt, aAt, bAt, cAt, dAt}
+use Rattle.table_rows.specs.Standing.{tagAt, belowAt, aAt, bAt, cAt, dAt}
 use Rattle.putting.specs.Puts.{Puts}
 use Rattle.details.specs.Prints.{Prints, Lists, TimedPrints, DetailPrints, daily, freeText, single, cyclic, sequence, ObjectPrints, posology, pause, ObjectsPrint}
 use Rattle.putting.proofs.Laid.{puts-then, puts-as}

@@ -4,7 +4,7 @@ use mathlib.Core.List.{List, _∷_}
 use Prim.Native.Nat.{ℕ, _<_}
 use native.Mathlib.Omega.{arith}
 use Rattle.json.specs.Tree.{Tree}
-use Rattle.words.specs.Standing.{tagAt, aAt, bAt, cAt, dAt}
+use Rattle.table_rows.specs.Standing.{tagAt, aAt, bAt, cAt, dAt}
 use Rattle.details.specs.Prints.{Prints, Opens, DosagePrints, simple, fromTo, range}
 use Rattle.putting.proofs.Laid.{puts-then, puts-as}
 use Rattle.details.proofs.Pieces.{PutsBytes, PutsAmount, PutsWhole}

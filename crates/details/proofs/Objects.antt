@@ -8,7 +8,7 @@ use lib.Dec.{eqb}
 use lib.ListN.{length}
 use borrow.Author.Tests.{eq-eqb, ne-eqb}
 use Rattle.json.specs.Tree.{Elements, noElement}
-use Rattle.words.specs.Standing.{belowAt}
+use Rattle.table_rows.specs.Standing.{belowAt}
 use Rattle.putting.specs.Puts.{Puts}
 use Rattle.details.specs.Prints.{Prints, Lists, ObjectPrints, ObjectsPrint, none, more}
 use Rattle.details.proofs.Listing.{Listed, Next, next, listed-none, listed-more, listed-all}

@@ -9,7 +9,7 @@ use Rattle.document.specs.Bytes.{bytes}
 use Rattle.document.specs.Spell.{spell, firstElement}
 use Rattle.document.specs.Plain.{field, typed, daysTree}
 use Rattle.document.specs.Untable.{daysOf}
-use Rattle.words.specs.Standing.{tagAt, belowAt, aAt, bAt}
+use Rattle.table_rows.specs.Standing.{tagAt, belowAt, aAt, bAt}
 use Rattle.putting.specs.Puts.{Puts}
 use Rattle.details.specs.Prints.{Prints, DosagePrints, ApplicationsPrint, PlainPrints, dosageOnly, times, segments, TimedPrints, plain, weekDays, daysOfMonth, interval}
 use Rattle.putting.proofs.Laid.{puts-then, puts-as}

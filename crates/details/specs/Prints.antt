@@ -11,7 +11,7 @@ use Rattle.document.specs.Words.{words}
 use Rattle.document.specs.Untable.{daysOf}
 use Rattle.document.specs.Plain.{whole, amount, textTree, timeText, field, fieldIf, typed, daysTree}
 use Rattle.document.specs.Spell.{spell, firstElement}
-use Rattle.words.specs.Standing.{At, belowAt}
+use Rattle.table_rows.specs.Standing.{At, belowAt}
 use Rattle.putting.specs.Puts.{Puts}
 
 -- The text of a tree that is P is put.

@@ -1,7 +1,7 @@
 // Details and the objects of a sequence (document 01, "Objects").
 use crate::dosage;
-use crate::record;
 use crate::timed;
+use document::table::RECORDS;
 use printing;
 use putting;
 use quoting;
@@ -12,7 +12,7 @@ ghost use lib.ListN.{length, take, drop};
 ghost use Rattle.document.specs.Spell.{spell};
 ghost use Rattle.document.specs.Schema.{greatestInteger};
 ghost use Rattle.document.specs.Plain.{whole};
-ghost use Rattle.words.specs.Standing.{tagAt, aAt, bAt};
+ghost use Rattle.table_rows.specs.Standing.{tagAt, aAt, bAt};
 ghost use Rattle.putting.specs.Puts.{Puts};
 ghost use Rattle.details.specs.Prints.{Prints, Lists, DetailPrints, ObjectPrints, ObjectsPrint};
 
@@ -20,10 +20,10 @@ fn put_daily(words: &[u64], i: usize, out: &mut [u8], from: usize) -> usize
     requires { ⌜ i ≤ 64 ⌝ }
     ensures { λ r. ⌜ ((buffer : List ℕ) (left : ℕ) → tagAt (now (words .entry)) i ≡ 1 → Prints (DetailPrints (now (words .entry)) buffer left i) (now (out .entry)) from r (now (out .exit))) ⌝ }
 {
-    let at = dosage::put_decimal(out, from, b"{\"t\":1,\"ds\":[", record::a(words, i));
-    let at = dosage::put_decimal(out, at, b",", record::b(words, i));
-    let at = dosage::put_decimal(out, at, b",", record::c(words, i));
-    let at = dosage::put_decimal(out, at, b",", record::d(words, i));
+    let at = dosage::put_decimal(out, from, b"{\"t\":1,\"ds\":[", table_rows::a(words, i));
+    let at = dosage::put_decimal(out, at, b",", table_rows::b(words, i));
+    let at = dosage::put_decimal(out, at, b",", table_rows::c(words, i));
+    let at = dosage::put_decimal(out, at, b",", table_rows::d(words, i));
     putting::put_all(out, at, b"]}")
 }
 
@@ -47,7 +47,7 @@ fn put_free_text(words: &[u64], i: usize, buffer: &[u8], out: &mut [u8], from: u
     ensures { λ r. ⌜ ((left : ℕ) → tagAt (now (words .entry)) i ≡ 2 → Prints (DetailPrints (now (words .entry)) (now (buffer .entry)) left i) (now (out .entry)) from r (now (out .exit))) ⌝ }
 {
     let at = putting::put_all(out, from, b"{\"t\":2,\"text\":");
-    let text = part(buffer, record::a(words, i), record::b(words, i));
+    let text = part(buffer, table_rows::a(words, i), table_rows::b(words, i));
     let at = quoting::put_string(out, at, text);
     putting::put(out, at, b'}')
 }
@@ -65,19 +65,19 @@ fn put_cyclic(words: &[u64], i: usize, out: &mut [u8], from: usize) -> usize
     requires { ⌜ i ≤ 64 ⌝ }
     ensures { λ r. ⌜ ((buffer : List ℕ) (left : ℕ) → tagAt (now (words .entry)) i ≡ 4 → Prints (DetailPrints (now (words .entry)) buffer left i) (now (out .entry)) from r (now (out .exit))) ⌝ }
 {
-    let at = dosage::put_integer(out, from, b"{\"t\":4,\"cyDuU\":", record::a(words, i));
-    let at = dosage::put_integer(out, at, b",\"cyDu\":", record::b(words, i));
+    let at = dosage::put_integer(out, from, b"{\"t\":4,\"cyDuU\":", table_rows::a(words, i));
+    let at = dosage::put_integer(out, at, b",\"cyDu\":", table_rows::b(words, i));
     let at = putting::put_all(out, at, b",\"tdo\":");
     let at = timed::put_timed(words, i + 1, out, at);
-    printing::put_per_cycle(out, at, record::c(words, i))
+    printing::put_per_cycle(out, at, table_rows::c(words, i))
 }
 
 // A pause, or the start of a posology in a sequence.
 fn put_span(words: &[u64], i: usize, name: &[u8], out: &mut [u8], from: usize) -> usize
     ensures { λ r. ⌜ ((k : List ℕ) → i < 64 → aAt (now (words .entry)) i ≤ greatestInteger → bAt (now (words .entry)) i ≤ 7 → Puts (now (out .entry)) from (now (name .entry) ++ spell (whole (aAt (now (words .entry)) i)) (44 ∷ 34 ∷ 100 ∷ 117 ∷ 85 ∷ 34 ∷ 58 ∷ spell (whole (bAt (now (words .entry)) i)) k)) k r (now (out .exit))) ⌝ }
 {
-    let at = dosage::put_integer(out, from, name, record::a(words, i));
-    dosage::put_integer(out, at, b",\"duU\":", record::b(words, i))
+    let at = dosage::put_integer(out, from, name, table_rows::a(words, i));
+    dosage::put_integer(out, at, b",\"duU\":", table_rows::b(words, i))
 }
 
 fn put_pause(words: &[u64], i: usize, out: &mut [u8], from: usize) -> usize
@@ -99,7 +99,7 @@ fn put_object(
     requires { ⌜ i < 64 ⌝ }
     ensures { λ r. ⌜ Prints (ObjectPrints (now (words .entry)) (now (buffer .entry)) left i) (now (out .entry)) from r (now (out .exit)) ⌝ }
 {
-    let tag = record::tag(words, i);
+    let tag = table_rows::tag(words, i);
     if tag == 16 {
         return put_pause(words, i, out, from);
     }
@@ -127,7 +127,7 @@ fn put_objects(
     while r < end {
         at = dosage::put_comma(out, at, r != i);
         at = put_object(words, r, left, buffer, out, at);
-        r = record::behind(words, r);
+        r = table_rows::behind(words, r);
     }
     at
 }
@@ -147,7 +147,7 @@ fn put_sequence(
     if left == 0 {
         return at;
     }
-    let end = record::behind(words, i);
+    let end = table_rows::behind(words, i);
     let at = put_objects(words, i + 1, end, left - 1, buffer, out, at);
     putting::put_all(out, at, b"]}")
 }
@@ -164,7 +164,7 @@ fn put_detail(
     requires { ⌜ i ≤ 64 ⌝ }
     ensures { λ r. ⌜ Prints (DetailPrints (now (words .entry)) (now (buffer .entry)) left i) (now (out .entry)) from r (now (out .exit)) ⌝ }
 {
-    let tag = record::tag(words, i);
+    let tag = table_rows::tag(words, i);
     match tag {
         1 => put_daily(words, i, out, from),
         2 => put_free_text(words, i, buffer, out, from),
@@ -177,9 +177,12 @@ fn put_detail(
 // "at most 3 sequences inside one another"
 const SEQUENCES: usize = 3;
 
-// The detail of a posology, which is its first record.
-pub fn put_po(words: &[u64], buffer: &[u8], out: &mut [u8], from: usize) -> usize
-    ensures { λ r. ⌜ Prints (DetailPrints (now (words .entry)) (now (buffer .entry)) 3 0) (now (out .entry)) from r (now (out .exit)) ⌝ }
+// The detail of a posology, whose records begin at record i.
+pub fn put_po(words: &[u64], i: usize, buffer: &[u8], out: &mut [u8], from: usize) -> usize
+    ensures { λ r. ⌜ Prints (DetailPrints (now (words .entry)) (now (buffer .entry)) 3 i) (now (out .entry)) from r (now (out .exit)) ⌝ }
 {
-    put_detail(words, 0, SEQUENCES, buffer, out, from)
+    if RECORDS <= i {
+        return from;
+    }
+    put_detail(words, i, SEQUENCES, buffer, out, from)
 }

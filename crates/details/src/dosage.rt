@@ -1,5 +1,4 @@
 // Dosages and applications (document 01, "Objects"), with members in the order of its table.
-use crate::record;
 use printing;
 use putting;
 ghost use mathlib.Core.Path.{_≡_};
@@ -8,7 +7,7 @@ ghost use mathlib.Core.Bool.{cond};
 ghost use Prim.Native.Nat.{ℕ, _<_, _≤_};
 ghost use Rattle.document.specs.Spell.{spell};
 ghost use Rattle.document.specs.Plain.{whole, amount};
-ghost use Rattle.words.specs.Standing.{tagAt};
+ghost use Rattle.table_rows.specs.Standing.{tagAt};
 ghost use Rattle.putting.specs.Puts.{Puts};
 ghost use Rattle.details.specs.Prints.{Prints, Opens, Lists, DosagePrints, ApplicationPrints, ApplicationsPrint};
 
@@ -30,30 +29,30 @@ pub(crate) fn put_decimal(out: &mut [u8], from: usize, name: &[u8], n: u64) -> u
 fn put_simple(words: &[u64], i: usize, out: &mut [u8], from: usize) -> usize
     ensures { λ r. ⌜ (tagAt (now (words .entry)) i ≡ 12 → Opens (DosagePrints (now (words .entry)) i) (now (out .entry)) from r (now (out .exit))) ⌝ }
 {
-    put_decimal(out, from, b"{\"t\":1,\"a\":", record::a(words, i))
+    put_decimal(out, from, b"{\"t\":1,\"a\":", table_rows::a(words, i))
 }
 
 fn put_from_to(words: &[u64], i: usize, out: &mut [u8], from: usize) -> usize
     ensures { λ r. ⌜ (tagAt (now (words .entry)) i ≡ 13 → Opens (DosagePrints (now (words .entry)) i) (now (out .entry)) from r (now (out .exit))) ⌝ }
 {
-    let at = put_decimal(out, from, b"{\"t\":2,\"aFrom\":", record::a(words, i));
-    let at = put_decimal(out, at, b",\"aTo\":", record::b(words, i));
-    let at = put_integer(out, at, b",\"duU\":", record::c(words, i));
-    put_integer(out, at, b",\"du\":", record::d(words, i))
+    let at = put_decimal(out, from, b"{\"t\":2,\"aFrom\":", table_rows::a(words, i));
+    let at = put_decimal(out, at, b",\"aTo\":", table_rows::b(words, i));
+    let at = put_integer(out, at, b",\"duU\":", table_rows::c(words, i));
+    put_integer(out, at, b",\"du\":", table_rows::d(words, i))
 }
 
 fn put_range(words: &[u64], i: usize, out: &mut [u8], from: usize) -> usize
     ensures { λ r. ⌜ (tagAt (now (words .entry)) i ≡ 14 → Opens (DosagePrints (now (words .entry)) i) (now (out .entry)) from r (now (out .exit))) ⌝ }
 {
-    let at = put_decimal(out, from, b"{\"t\":3,\"aMin\":", record::a(words, i));
-    put_decimal(out, at, b",\"aMax\":", record::b(words, i))
+    let at = put_decimal(out, from, b"{\"t\":3,\"aMin\":", table_rows::a(words, i));
+    put_decimal(out, at, b",\"aMax\":", table_rows::b(words, i))
 }
 
 // The dosage of record i.
 pub(crate) fn put_dosage(words: &[u64], i: usize, out: &mut [u8], from: usize) -> usize
     ensures { λ r. ⌜ Prints (DosagePrints (now (words .entry)) i) (now (out .entry)) from r (now (out .exit)) ⌝ }
 {
-    let tag = record::tag(words, i);
+    let tag = table_rows::tag(words, i);
     let at = match tag {
         12 => put_simple(words, i, out, from),
         13 => put_from_to(words, i, out, from),
@@ -68,13 +67,13 @@ fn put_application(words: &[u64], i: usize, out: &mut [u8], from: usize) -> usiz
 {
     let at = putting::put_all(out, from, b"{\"do\":");
     let at = put_dosage(words, i + 1, out, at);
-    let tag = record::tag(words, i);
+    let tag = table_rows::tag(words, i);
     if tag == 17 {
         let at = putting::put_all(out, at, b",\"dt\":\"");
-        let at = printing::put_time(out, at, record::a(words, i));
+        let at = printing::put_time(out, at, table_rows::a(words, i));
         return putting::put_all(out, at, b"\"}");
     }
-    let at = put_integer(out, at, b",\"s\":", record::a(words, i));
+    let at = put_integer(out, at, b",\"s\":", table_rows::a(words, i));
     putting::put(out, at, b'}')
 }
 

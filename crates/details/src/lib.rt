@@ -1,7 +1,6 @@
 // The plain text of a posology's detail put into a buffer, object by object (document 01, "The plain text").
 mod detail;
 mod dosage;
-mod record;
 mod timed;
 
 pub use detail::part;

@@ -1,6 +1,5 @@
 // Timed dosages (document 01, "Objects").
 use crate::dosage;
-use crate::record;
 use printing;
 use putting;
 ghost use mathlib.Core.Path.{_≡_};
@@ -10,7 +9,7 @@ ghost use Rattle.json.specs.Tree.{Tree, noMember, Elements};
 ghost use Rattle.document.specs.Untable.{daysOf};
 ghost use Rattle.document.specs.Spell.{spell, firstElement};
 ghost use Rattle.document.specs.Plain.{typed, field, daysTree};
-ghost use Rattle.words.specs.Standing.{tagAt, belowAt, aAt};
+ghost use Rattle.table_rows.specs.Standing.{tagAt, belowAt, aAt};
 ghost use Rattle.putting.specs.Puts.{Puts};
 ghost use Rattle.details.specs.Prints.{Prints, DosagePrints, ApplicationsPrint, PlainPrints, TimedPrints};
 
@@ -45,7 +44,7 @@ fn put_listed(words: &[u64], i: usize, name: &[u8], out: &mut [u8], from: usize)
     ensures { λ r. ⌜ ((ts : Elements) (k : List ℕ) → i + 1 + belowAt (now (words .entry)) i ≤ 64 → ApplicationsPrint (now (words .entry)) (i + 1 + belowAt (now (words .entry)) i) (i + 1) ts → Puts (now (out .entry)) from (now (name .entry) ++ firstElement ts (125 ∷ k)) k r (now (out .exit))) ⌝ }
 {
     let at = putting::put_all(out, from, name);
-    let end = record::behind(words, i);
+    let end = table_rows::behind(words, i);
     let at = dosage::put_applications(words, i + 1, end, out, at);
     putting::put_all(out, at, b"]}")
 }
@@ -64,7 +63,7 @@ fn put_plain(words: &[u64], i: usize, out: &mut [u8], from: usize) -> usize
     requires { ⌜ i ≤ 66 ⌝ }
     ensures { λ r. ⌜ Prints (PlainPrints (now (words .entry)) i) (now (out .entry)) from r (now (out .exit)) ⌝ }
 {
-    let tag = record::tag(words, i);
+    let tag = table_rows::tag(words, i);
     match tag {
         7 => put_listed(words, i, b"{\"t\":2,\"ts\":[", out, from),
         8 => put_listed(words, i, b"{\"t\":3,\"ss\":[", out, from),
@@ -85,7 +84,7 @@ fn put_under_days(
     ensures { λ r. ⌜ ((t : Tree) (k : List ℕ) → i < 64 → PlainPrints (now (words .entry)) (i + 1) t → Puts (now (out .entry)) from (now (name .entry) ++ firstElement (daysTree (daysOf last 1 (aAt (now (words .entry)) i))) (44 ∷ 34 ∷ 116 ∷ 100 ∷ 111 ∷ 34 ∷ 58 ∷ spell t (125 ∷ k))) k r (now (out .exit))) ⌝ }
 {
     let at = putting::put_all(out, from, name);
-    let at = put_days(record::a(words, i), last, out, at);
+    let at = put_days(table_rows::a(words, i), last, out, at);
     let at = putting::put_all(out, at, b"],\"tdo\":");
     let at = put_plain(words, i + 1, out, at);
     putting::put(out, at, b'}')
@@ -97,8 +96,8 @@ fn put_interval(words: &[u64], i: usize, out: &mut [u8], from: usize) -> usize
 {
     let at = putting::put_all(out, from, b"{\"t\":6,\"do\":");
     let at = dosage::put_dosage(words, i + 1, out, at);
-    let at = dosage::put_integer(out, at, b",\"miDu\":", record::a(words, i));
-    let at = dosage::put_integer(out, at, b",\"miDuU\":", record::b(words, i));
+    let at = dosage::put_integer(out, at, b",\"miDu\":", table_rows::a(words, i));
+    let at = dosage::put_integer(out, at, b",\"miDuU\":", table_rows::b(words, i));
     putting::put(out, at, b'}')
 }
 
@@ -106,7 +105,7 @@ pub(crate) fn put_timed(words: &[u64], i: usize, out: &mut [u8], from: usize) ->
     requires { ⌜ i ≤ 65 ⌝ }
     ensures { λ r. ⌜ Prints (TimedPrints (now (words .entry)) i) (now (out .entry)) from r (now (out .exit)) ⌝ }
 {
-    let tag = record::tag(words, i);
+    let tag = table_rows::tag(words, i);
     match tag {
         9 => put_under_days(words, i, b"{\"t\":4,\"wds\":[", LAST_WEEKDAY, out, from),
         10 => put_under_days(

@@ -1,46 +1,24 @@
--- The demands, the examples, and the laws that they rest on.
-pub mod Examples
-pub mod Good
+-- Laws of the definitions that code is proved by; what texts mean is proved in crate meaning.
 pub mod Same
-pub mod Reorder
-pub mod OneMeaning
+pub mod Ranges
+pub mod Strings
+pub mod Utf8Tests
+-- Days and dates
 pub mod Days
+pub mod DaySets
+pub mod DayNumbers
 pub mod RealDates
-pub mod Makes
-pub mod Sound
+mod Calendar
+-- What is valid, part by part
 pub mod DetailParts
-pub mod Parts
 pub mod ValidParts
-pub mod Complete
-pub mod Accepts
-pub mod Utf8Texts
-pub mod Texts
-pub mod Moves
-pub mod Spelled
-pub mod NextTexts
+-- What is written
 pub mod Written
 pub mod WrittenDates
-pub mod DayNumbers
-pub mod PlainMeans
-pub mod PlainHead
-pub mod PlainDepth
 pub mod Sizes
-pub mod Lengths
-pub mod Ranges
-pub mod Numerals
-pub mod Utf8Sequences
-pub mod QuotedChars
-pub mod PlainSpells
-pub mod PlainSpellable
-pub mod PlainThen
-pub mod PlainTexts
+-- Tables
 pub mod WordsBack
-pub mod DaySets
+pub mod WordRows
 pub mod Untables
-pub mod Strings
 pub mod Untabled
 pub mod Tables
-pub mod TableLengths
-pub mod Numbered
-pub mod Wish3
-mod Calendar

@@ -5,7 +5,7 @@ use mathlib.Core.Bool.{Bool, true, false, cond, _&&_}
 use Prim.Native.Nat.{ℕ}
 use native.Mathlib.Omega.{arith}
 use lib.Dec.{leb}
-use lib.ListN.{length, take, drop, take-append-drop}
+use lib.ListN.{length, take}
 use lib.Seq.{take-at}
 use borrow.Author.Tests.{leb-true, le-leb}
 use Rattle.json.specs.Rows.{choose}
@@ -16,15 +16,12 @@ use Rattle.document.specs.Table.{tableOf}
 use Rattle.document.specs.Words.{tableWords}
 use Rattle.document.specs.Untable.{posologyOf}
 use Rattle.document.specs.Plain.{plain}
-use Rattle.document.specs.Answer.{taken, read}
 use Rattle.document.specs.Write.{writes, refuses, fitting, write, isTableOf, readable, greatestRoom}
 use Rattle.document.specs.declared.table.Table.{Table}
 use Rattle.json.proofs.Truth.{and-both, and-left, and-right, choose-true}
 use Rattle.document.proofs.Same.{same-refl, same-equal}
-use Rattle.document.proofs.Spelled.{accepted-spells}
 use Rattle.document.proofs.WordsBack.{words-one}
 use Rattle.document.proofs.Untabled.{untabled}
-use Rattle.document.proofs.PlainTexts.{plain-reads}
 
 is-own-table : (purpose : ℕ) (p : Posology) (behind : List ℕ) → valid purpose p ≡ true → Fits greatestRoom p → isTableOf purpose (tableOf p) (strings p ++ behind) p ≡ true
 is-own-table purpose p behind v f =
@@ -106,19 +103,3 @@ fitted room bytes w h = go (leb (length bytes) room) h
     go : (b : Bool) → cond b (writes bytes) (refuses 19 (length bytes)) ≡ writes w → w ≡ bytes
     go true e = cc e
     go false e = let z : _≡_ {A = ℕ} 0 1 = cc in absurd (omega arith)
-
-abbrev Reading : ℕ → Table → List ℕ → Type 0
-Reading purpose t bytes = (text : List ℕ) × (p : Posology) × (read purpose greatestRoom text ≡ taken p) × (tableOf p ≡ t) × (take (length (strings p)) bytes ≡ strings p)
-
-pub readable-read : (purpose : ℕ) (t : Table) (bytes : List ℕ) → isUse purpose ≡ true → readable purpose t bytes ≡ true → Reading purpose t bytes
-readable-read purpose t bytes u h =
-    let s = stands-for purpose t bytes h in
-    (plain (s .is), s .is, plain-reads purpose greatestRoom (s .is) (u, s .valid) (s .fits) (s .fits), s .table, s .strings-first)
-
-pub read-readable : (purpose : ℕ) (t : Table) (bytes : List ℕ) → Reading purpose t bytes → readable purpose t bytes ≡ true
-read-readable purpose t bytes r =
-    let p = r .1 in
-    let a = accepted-spells purpose greatestRoom (r .0) p (r .2) in
-    let e : bytes ≡ strings p ++ drop (length (strings p)) bytes = sym (take-append-drop (length (strings p)) bytes) ∙ ap (λ (s : List ℕ). s ++ drop (length (strings p)) bytes) (r .4) in
-    subst (λ (s : List ℕ). readable purpose t s ≡ true) (sym e)
-    (subst (λ (u : Table). readable purpose u (strings p ++ drop (length (strings p)) bytes) ≡ true) (r .3) (own-readable purpose p (drop (length (strings p)) bytes) (a .1 .1) (a .3)))

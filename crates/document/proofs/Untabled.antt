@@ -21,8 +21,7 @@ use Rattle.document.specs.declared.table.Date.{Date}
 use Rattle.document.specs.declared.table.Record.{Record}
 use Rattle.document.proofs.Ranges.{in-range}
 use Rattle.document.proofs.DetailParts.{text-parts}
-use Rattle.document.proofs.Parts.{unit-text}
-use Rattle.document.proofs.ValidParts.{valid-parts, few-records}
+use Rattle.document.proofs.ValidParts.{valid-parts, few-records, unit-text}
 use Rattle.document.proofs.Untables.{joined-append, detail-append, part-back, detail-back}
 
 -- Records in front of others, and how many they are.

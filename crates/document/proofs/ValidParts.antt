@@ -1,6 +1,8 @@
 -- What makes a posology valid, part by part.
-use mathlib.Core.Path.{_≡_}
+use mathlib.Core.Path.{_≡_, refl}
+use mathlib.Core.List.{List}
 use mathlib.Core.Bool.{true}
+use mathlib.Core.Option.{Option, none, some}
 use Prim.Native.Nat.{ℕ, _≤_}
 use lib.Dec.{leb}
 use borrow.Author.Tests.{leb-true, le-leb}
@@ -43,3 +45,8 @@ few-records purpose p v = leb-true (detailRecords (p .po)) recordsAtMost (and-ri
 pub parts-valid : (purpose : ℕ) (p : Posology) → ValidParts purpose p → detailRecords (p .po) ≤ recordsAtMost → valid purpose p ≡ true
 unfolding valid validFields
 parts-valid purpose p n few = and-both (and-both (and-both (and-both (and-both (and-both (and-both (and-both (and-both (n .from) (n .to)) (n .detail)) (n .meal)) (n .unit)) (n .instructions)) (n .roa)) (n .moa)) (n .ordered)) (le-leb (detailRecords (p .po)) recordsAtMost few)
+
+-- Whether or not it must be given, a unit is a text.
+pub unit-text : (purpose : ℕ) (u : Option (List ℕ)) → isUnitFor purpose u ≡ true → ifGiven isText u ≡ true
+unit-text purpose none v = refl
+unit-text purpose (some u) v = v

@@ -206,70 +206,83 @@ atTimeRows = need "do" (anObject aDosage) λ d. need "dt" (aString time) λ dt. 
 unfoldable pub inSegmentRows : Rows InSegment
 inSegmentRows = need "do" (anObject aDosage) λ d. need "s" (aNumber (integer 1 4)) λ s. gives (inSegment d s)
 
--- The rows of a family's type, and how many types it has: the head and the applications have none.
+-- The facts of a family, in one row.
+pub record Facts (A : Type 0) : Type 0 where
+  pub sample : A  -- any value
+  pub isRecord : Bool  -- "Each PosologyDetail, TimedDosage, Application, Dosage and Sequence object is one record."
+  pub types : ℕ  -- how many types it has: 0 where it has no t
+  pub stands : ℕ → Bool  -- 10: whether a type may stand under its parent
+  pub opens : ℕ → Bool  -- 14: whether a type may still open
+  pub rows : ℕ → Rows A  -- the fields of a type
+
+abbrev always : ℕ → Bool
+always t = true
+
+-- An object with no t.
+abbrev plainly : {A : Type 0} → A → Bool → Rows A → Facts A
+plainly a record? rows = record { sample = a; isRecord = record?; types = 0; stands = always; opens = always; rows = λ t. rows }
+
+abbrev someHead : Posology
+someHead = record { dtFrom = none; dtTo = none; inRes = false; po = freeText []; relMeal = none; unit = none; applInstr = none; roa = none; moa = none }
+
+abbrev pub facts : (f : Family) → Facts (OfFamily f)
+facts (aPosology purpose) = plainly someHead false (posologyRows (eqb purpose 3))
+facts (aDetail n) = record {
+  sample = freeText [];
+  isRecord = true;
+  types = 5;
+  stands = always;
+  opens = λ t. not (eqb t 5) || ltb 0 n;
+  rows = λ t. getD (dailyRows ∷ freeTextRows ∷ singleRows ∷ cyclicRows ∷ sequenceRows n ∷ []) (t - 1) dailyRows;
+}
+facts (aTimed ts) = record {
+  sample = times [];
+  isRecord = true;
+  types = 6;
+  stands = λ t. among t ts;
+  opens = always;
+  rows = λ t. getD (dosageOnlyRows ∷ timesRows ∷ daySegmentsRows ∷ weekDaysRows ∷ daysOfMonthRows ∷ intervalRows ∷ []) (t - 1) dosageOnlyRows;
+}
+facts aDosage = record {
+  sample = simple 0;
+  isRecord = true;
+  types = 3;
+  stands = always;
+  opens = always;
+  rows = λ t. getD (simpleRows ∷ fromToRows ∷ rangeRows ∷ []) (t - 1) simpleRows;
+}
+facts (aSequenceObject n) = record {
+  sample = pause 0 0;
+  isRecord = true;
+  types = 2;
+  stands = always;
+  opens = always;
+  rows = λ t. getD (posologySequenceRows n ∷ pauseRows ∷ []) (t - 1) pauseRows;
+}
+facts anAtTime = plainly (atTime (simple 0) 0) true atTimeRows
+facts anInSegment = plainly (inSegment (simple 0) 0) true inSegmentRows
+
 unfoldable pub rowsOf : (f : Family) → ℕ → Rows (OfFamily f)
 unfolding posologyRows dailyRows freeTextRows singleRows cyclicRows sequenceRows dosageOnlyRows timesRows daySegmentsRows weekDaysRows daysOfMonthRows intervalRows simpleRows fromToRows rangeRows posologySequenceRows pauseRows atTimeRows inSegmentRows
-rowsOf (aPosology purpose) t = posologyRows (eqb purpose 3)
-rowsOf (aDetail n) t = getD (dailyRows ∷ freeTextRows ∷ singleRows ∷ cyclicRows ∷ sequenceRows n ∷ []) (t - 1) dailyRows
-rowsOf (aTimed ts) t = getD (dosageOnlyRows ∷ timesRows ∷ daySegmentsRows ∷ weekDaysRows ∷ daysOfMonthRows ∷ intervalRows ∷ []) (t - 1) dosageOnlyRows
-rowsOf aDosage t = getD (simpleRows ∷ fromToRows ∷ rangeRows ∷ []) (t - 1) simpleRows
-rowsOf (aSequenceObject n) t = getD (posologySequenceRows n ∷ pauseRows ∷ []) (t - 1) pauseRows
-rowsOf anAtTime t = atTimeRows
-rowsOf anInSegment t = inSegmentRows
+rowsOf f t = facts f .rows t
 
 abbrev pub typesOf : Family → ℕ
-typesOf (aPosology purpose) = 0
-typesOf (aDetail n) = 5
-typesOf (aTimed ts) = 6
-typesOf aDosage = 3
-typesOf (aSequenceObject n) = 2
-typesOf anAtTime = 0
-typesOf anInSegment = 0
+typesOf f = facts f .types
 
--- "Each PosologyDetail, TimedDosage, Application, Dosage and Sequence object is one record."
 abbrev pub isRecord : Family → Bool
-isRecord (aPosology purpose) = false
-isRecord (aDetail n) = true
-isRecord (aTimed ts) = true
-isRecord aDosage = true
-isRecord (aSequenceObject n) = true
-isRecord anAtTime = true
-isRecord anInSegment = true
+isRecord f = facts f .isRecord
 
--- 10: whether a type may stand under its parent.
 abbrev pub mayStand : Family → ℕ → Bool
-mayStand (aPosology purpose) t = true
-mayStand (aDetail n) t = true
-mayStand (aTimed ts) t = among t ts
-mayStand aDosage t = true
-mayStand (aSequenceObject n) t = true
-mayStand anAtTime t = true
-mayStand anInSegment t = true
+mayStand f t = facts f .stands t
 
--- 14: whether a sequence, type 5 of a detail, may still open.
 abbrev pub mayOpen : Family → ℕ → Bool
-mayOpen (aPosology purpose) t = true
-mayOpen (aDetail n) t = not (eqb t 5) || ltb 0 n
-mayOpen (aTimed ts) t = true
-mayOpen aDosage t = true
-mayOpen (aSequenceObject n) t = true
-mayOpen anAtTime t = true
-mayOpen anInSegment t = true
+mayOpen f t = facts f .opens t
 
 -- The names of some rows. No row's name hangs on a value, so any value shows the rows behind it.
 abbrev pub anyString : (s : StringShape) → OfString s
 anyString text = []
 anyString date = bare (record { year = 0; month = 0; day = 0 })
 anyString time = 0
-
-abbrev pub anyFamily : (f : Family) → OfFamily f
-anyFamily (aPosology purpose) = record { dtFrom = none; dtTo = none; inRes = false; po = freeText []; relMeal = none; unit = none; applInstr = none; roa = none; moa = none }
-anyFamily (aDetail n) = freeText []
-anyFamily (aTimed ts) = times []
-anyFamily aDosage = simple 0
-anyFamily (aSequenceObject n) = pause 0 0
-anyFamily anAtTime = atTime (simple 0) 0
-anyFamily anInSegment = inSegment (simple 0) 0
 
 abbrev pub anyList : (l : ListShape) → OfList l
 anyList fourDecimals = record { morning = 0; noon = 0; evening = 0; night = 0 }
@@ -281,7 +294,7 @@ abbrev pub any : (s : Shape) → Of s
 any (aNumber n) = 0
 any (aString s) = anyString s
 any aFlag = false
-any (anObject f) = anyFamily f
+any (anObject f) = facts f .sample
 any (aList l) = anyList l
 
 abbrev pub names : {A : Type 0} → Rows A → List (List ℕ)

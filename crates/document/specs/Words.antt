@@ -14,6 +14,13 @@ use Rattle.document.specs.declared.table.Record.{Record}
 use Rattle.document.specs.declared.table.Head.{Head}
 use Rattle.document.specs.declared.table.Table.{Table}
 
+-- A record is six words wide, and a table's 64 records are 384 words.
+abbrev pub width : ℕ
+width = 6
+
+abbrev pub wordsAtMost : ℕ
+wordsAtMost = 384
+
 -- A record's numbers.
 pub record Words : Type 0 where
   pub tag : ℕ

@@ -1,4 +1,4 @@
-// Document 01: its definitions (specs/), the demands proved over them (proofs/), and the types of the table.
+// Document 01: its definitions (specs/), the laws of them that code is proved by (proofs/), and the types of the table.
 pub mod dates;
 pub mod moments;
 pub mod table;

@@ -2,8 +2,10 @@
 
 pub const RECORDS: usize = 64;
 
-// Six a record: its tag, the records below it, four values.
-pub const WORDS: usize = 384;
+// A record's words: its tag, the records below it, four values.
+pub const WIDTH: usize = 6;
+
+pub const WORDS: usize = RECORDS * WIDTH;
 
 // Text room is the buffer's length or this, the smaller (document 01, "The table").
 pub const TEXT_ROOM: usize = 2048;

@@ -15,11 +15,12 @@ use Rattle.document.specs.Valid.{validDosage, validAtTime, validInSegment, ever
 use Rattle.document.specs.Table.{dosageRow, timesRows, segmentsRows, timedRows}
 use Rattle.document.specs.Words.{recordWords, allWords}
 use Rattle.document.specs.declared.table.Record.{Record}
-use Rattle.words.specs.Standing.{belowAt, At, Lies}
+use Rattle.table_rows.specs.Standing.{belowAt, At, Lies}
 use Rattle.document.proofs.Ranges.{in-range}
 use Rattle.document.proofs.DetailParts.{simple-parts, from-to-parts, range-parts, first-time, first-segment, dosage-only-parts, times-parts, segments-parts, week-parts, month-parts, interval-parts}
+use Rattle.table_rows.proofs.Standing.{moved}
 use Rattle.doses.proofs.DaySums.{days-sum}
-use Rattle.doses.proofs.Lies.{moved, typesUnder}
+use Rattle.doses.proofs.Lies.{typesUnder}
 use Rattle.doses.specs.Doses.{DosageAt, simple, fromTo, range, ApplicationsAt, none, more, PlainAt, dosageOnly, times, segments, TimedAt, plain, interval, weekDays, daysOfMonth}
 
 -- A timed dosage where the types ts may stand, under a parent that lets them.

@@ -1,5 +1,5 @@
 -- Words that are checked are those of a value: dosages and timed dosages.
-use mathlib.Core.Path.{_≡_, refl, ap, sym, subst}
+use mathlib.Core.Path.{_≡_, refl, ap, sym}
 use mathlib.Core.List.{List, [], _∷_}
 use mathlib.Core.Bool.{Bool, true, false, cond}
 use Prim.Native.Nat.{ℕ, _+_}
@@ -13,15 +13,13 @@ use Rattle.document.specs.Schema.{underSingle, underDays, underCyclic}
 use Rattle.document.specs.Date.{among}
 use Rattle.document.specs.Valid.{validDosage, validAtTime, validInSegment, every, validTimed, timedRecords}
 use Rattle.document.specs.Table.{dosageRow, timesRows, segmentsRows, timedRows}
-use Rattle.document.specs.Words.{Words, recordWords, allWords}
+use Rattle.document.specs.Words.{recordWords, allWords}
 use Rattle.document.specs.declared.table.Record.{Record}
-use Rattle.words.specs.Standing.{belowAt, aAt, bAt, cAt, dAt, At, Lies}
+use Rattle.table_rows.proofs.Standing.{moved}
+use Rattle.table_rows.specs.Standing.{belowAt, aAt, bAt, cAt, dAt, At, Lies}
 use Rattle.doses.proofs.DaySums.{days-are}
 use Rattle.doses.specs.Doses.{DosageAt, simple, fromTo, range, ApplicationsAt, none, more, PlainAt, dosageOnly, times, segments, DaysAt, IntervalAt, TimedAt, plain, interval, weekDays, daysOfMonth}
 use Rattle.json.proofs.Truth.{and-both}
-
-pub moved : (ws : List ℕ) (l : List Words) {i j : ℕ} → i ≡ j → Lies ws i l → Lies ws j l
-moved ws l e p = subst (λ n. Lies ws n l) e p
 
 pub record DosageIs (ws : List ℕ) (i : ℕ) : Type 0 where
   pub value : Dosage

@@ -5,7 +5,7 @@ use mathlib.Core.Bool.{Bool, true, false}
 use Prim.Native.Nat.{ℕ, _+_, _≤_, _<_}
 use lib.ListN.{getD}
 use Rattle.document.specs.Schema.{greatestInteger, greatestDecimal}
-use Rattle.words.specs.Standing.{tagAt, belowAt, aAt, bAt, cAt, dAt}
+use Rattle.table_rows.specs.Standing.{tagAt, belowAt, aAt, bAt, cAt, dAt}
 
 -- An answer that says whether P holds.
 pub record Decides (P : Type 0) (r : Bool) : Type 0 where

@@ -1,9 +1,9 @@
 // Whether words lay out a detail without strings: its doses, their times and their days (document 01, "Objects" and "The table").
 use document::table::RECORDS;
+use document::table::WIDTH;
 use document::table::WORDS;
-ghost use mathlib.Core.Path.{_≡_};
 ghost use Prim.Native.Nat.{_<_, _≤_};
-ghost use Rattle.words.specs.Standing.{belowAt, aAt};
+ghost use Rattle.document.specs.Words.{wordsAtMost};
 ghost use Rattle.doses.specs.Doses.{Decides, Within, Row, Rising, DosageAt, ApplicationAt, ApplicationsAt, ListedAt, PlainAt, Nested, DaysAt, IntervalAt, TimedAt, SingleAt, CyclicAt, StillAt};
 
 pub const MOST_BELOW: u64 = 63;
@@ -14,7 +14,7 @@ pub const MOST_INTEGER: u64 = 99999;
 
 // Whether the word there lies from a least to a greatest number.
 fn within(words: &[u64; WORDS], at: usize, least: u64, most: u64) -> bool
-    requires { ⌜ at < 384 ⌝ }
+    requires { ⌜ at < wordsAtMost ⌝ }
     ensures { λ r. ⌜ Decides (Within (now (words .entry)) at least most) r ⌝ }
 {
     let w = words[at];
@@ -45,7 +45,7 @@ pub fn row(
     if RECORDS <= i {
         return false;
     }
-    let at = i * 6;
+    let at = i * WIDTH;
     if !within(words, at, tag, tag) {
         return false;
     }
@@ -92,8 +92,7 @@ fn rising(
         d0,
         d1,
     ) {
-        let at = i * 6;
-        if words[at + 2] < words[at + 3] {
+        if table_rows::a(words, i) < table_rows::b(words, i) {
             return true;
         }
         return false;
@@ -148,29 +147,12 @@ fn applications(words: &[u64; WORDS], i: usize, end: usize, tag: u64, least: u64
     false
 }
 
-// The records below record i.
-pub fn below(words: &[u64; WORDS], i: usize) -> usize
-    ensures { λ r. ⌜ (i < 64 → r ≡ belowAt (now (words .entry)) i) ⌝ }
-{
-    if RECORDS <= i {
-        return 0;
-    }
-    words[i * 6 + 1] as usize
-}
-
-fn unit_of(words: &[u64; WORDS], i: usize) -> u64
-    requires { ⌜ i < 64 ⌝ }
-    ensures { λ r. ⌜ r ≡ aAt (now (words .entry)) i ⌝ }
-{
-    words[i * 6 + 2]
-}
-
 fn listed(words: &[u64; WORDS], i: usize, own: u64, tag: u64, least: u64, most: u64) -> bool
     ensures { λ r. ⌜ Decides (ListedAt (now (words .entry)) i own tag least most) r ⌝ }
 {
     if row(words, i, own, 0, MOST_BELOW, 0, 0, 0, 0, 0, 0, 0, 0) {
         let first = i + 1;
-        let n = below(words, i);
+        let n = table_rows::below(words, i);
         let end = first + n;
         if applications(words, first, end, tag, least, most) {
             return true;
@@ -203,11 +185,11 @@ pub fn nested(words: &[u64; WORDS], i: usize) -> bool
     if RECORDS - 1 <= i {
         return false;
     }
-    let n = words[i * 6 + 1];
+    let n = table_rows::below(words, i);
     if n == 0 {
         return false;
     }
-    if words[(i + 1) * 6 + 1] == n - 1 {
+    if table_rows::below(words, i + 1) == n - 1 {
         return true;
     }
     false
@@ -302,7 +284,7 @@ fn cyclic(words: &[u64; WORDS], i: usize) -> bool
         0,
         0,
     ) {
-        let unit = unit_of(words, i);
+        let unit = table_rows::a(words, i);
         if timed(words, i + 1, unit) {
             if nested(words, i) {
                 return true;

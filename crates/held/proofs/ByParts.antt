@@ -6,7 +6,7 @@ use mathlib.Core.List.{List, [], _∷_, _++_}
 use mathlib.Core.Bool.{true}
 use lib.ListN.{length, take, drop, take-append-drop}
 use Rattle.document.specs.Lookup.{same}
-use Rattle.document.specs.Words.{headWords, tableWords}
+use Rattle.document.specs.Words.{width, headWords, tableWords}
 use Rattle.document.specs.declared.table.Table.{Table}
 use Rattle.document.proofs.Same.{same-refl, same-equal}
 use Rattle.kinds.specs.Kinds.{recordIn}
@@ -45,7 +45,7 @@ module _ (area : List ℕ) (r : HeadPart) (h : HeadIs area r) (b : AllBytes area
           count = sym (h .count);
           text = sym (h .text);
           words = sym (ap (drop 26) area-numbers ∙ words-behind (tableIn area));
-          all = groups-length 6 recordIn 64 (drop 26 (numbersIn area));
+          all = groups-length width recordIn 64 (drop 26 (numbersIn area));
         }
 
   pub laid-is-area : (t : Table) → Fitting t → r .laid ≡ true → length area ≡ areaBytes

@@ -6,6 +6,7 @@ use native.Mathlib.Omega.{arith}
 use native.Mathlib.Nat.{zero-add, suc-add, suc-mul, add-comm}
 use lib.ListN.{length, take, drop, getD}
 use lib.Seq.{drop-drop, getD-take, ext-getD}
+use Rattle.document.specs.Words.{wordsAtMost}
 use Rattle.kinds.specs.Kinds.{groups}
 use Rattle.kinds.proofs.Fill.{groups-length, groups-at}
 use Rattle.eights.specs.Eights.{numberIn}
@@ -27,21 +28,21 @@ pub head-numbers : (area : List ℕ) → numbersFrom 0 26 area ≡ take 26 (numb
 unfolding numbersIn groups
 head-numbers area = refl
 
-pub record-numbers : (area : List ℕ) → numbersFrom 208 384 area ≡ wordsIn area
+pub record-numbers : (area : List ℕ) → numbersFrom 208 wordsAtMost area ≡ wordsIn area
 unfolding numbersIn
-record-numbers area = sym (later-numbers 26 384 area)
+record-numbers area = sym (later-numbers 26 wordsAtMost area)
 
 -- The number at a place of a part.
 pub number-of : (at i : ℕ) (area : List ℕ) → numberIn 8 (drop (at + i * 8) area) ≡ numberIn 8 (drop (i * 8) (drop at area))
 number-of at i area = ap (numberIn 8) (sym (drop-drop (i * 8) at area))
 
 -- Words that are each the number of its bytes are the records' words.
-pub words-taken : (area ws : List ℕ) → length ws ≡ 384 → ((i : ℕ) → i < 384 → getD ws i 0 ≡ numberIn 8 (drop (208 + i * 8) area))
+pub words-taken : (area ws : List ℕ) → length ws ≡ wordsAtMost → ((i : ℕ) → i < wordsAtMost → getD ws i 0 ≡ numberIn 8 (drop (208 + i * 8) area))
     → ws ≡ wordsIn area
 words-taken area ws size at =
     let behind = drop 208 area in
-    ext-getD 0 ws (numbersFrom 208 384 area) (size ∙ sym (groups-length 8 (numberIn 8) 384 behind))
-    (λ i h. at i (omega arith) ∙ number-of 208 i area ∙ sym (groups-at 8 (numberIn 8) 384 i behind 0 (omega arith)))
+    ext-getD 0 ws (numbersFrom 208 wordsAtMost area) (size ∙ sym (groups-length 8 (numberIn 8) wordsAtMost behind))
+    (λ i h. at i (omega arith) ∙ number-of 208 i area ∙ sym (groups-at 8 (numberIn 8) wordsAtMost i behind 0 (omega arith)))
     ∙ record-numbers area
 
 -- The head of all numbers is that of its own.

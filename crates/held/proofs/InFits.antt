@@ -3,6 +3,7 @@ use Prim.Native.Nat.{ℕ, zero, suc, _+_, _<_}
 use mathlib.Core.List.{List, [], _∷_}
 use native.Mathlib.Omega.{arith}
 use lib.ListN.{drop, getD}
+use Rattle.document.specs.Words.{width}
 use Rattle.document.specs.declared.table.Dosage.the-variants as S
 use Rattle.document.specs.declared.table.Kind.{Kind}
 use Rattle.document.specs.declared.table.Kind.the-variants as K
@@ -88,11 +89,11 @@ kind-fits tag a b c d p q r s = kind-at-fits (kinds a b c d) tag (K.InSegment (u
     all : AllKinds (kinds a b c d)
     all = (tt, ((p, q, r, s), (record { start = p; len = q }, (tt, ((cut8 a, cut32 b, cut32 c), (tt, (tt, (tt, (tt, (cut32 a, (cut32 a, ((cut32 a, cut8 b), later))))))))))))
 
-records-fit : (n : ℕ) (ws : List ℕ) → AllBelow ws → AllFit (groups 6 recordIn n ws)
+records-fit : (n : ℕ) (ws : List ℕ) → AllBelow ws → AllFit (groups width recordIn n ws)
 unfolding groups recordIn
 records-fit zero ws h = tt
 records-fit (suc n) ws h =
-    ((kind-fits (getD ws 0 0) _ _ _ _ (at-below ws 2 h) (at-below ws 3 h) (at-below ws 4 h) (at-below ws 5 h), at-below ws 1 h), records-fit n (drop 6 ws) (dropped-below 6 ws h))
+    ((kind-fits (getD ws 0 0) _ _ _ _ (at-below ws 2 h) (at-below ws 3 h) (at-below ws 4 h) (at-below ws 5 h), at-below ws 1 h), records-fit n (drop width ws) (dropped-below width ws h))
 
 text-fits : (at : ℕ) (ws : List ℕ) → AllBelow ws → TextFits (textIn at ws)
 text-fits at ws h = record { start = at-below ws at h; len = at-below ws (at + 1) h }
@@ -113,7 +114,7 @@ numbers-fit ws h =
           };
       count = at-below ws 24 h;
       text = at-below ws 25 h;
-      all = groups-length 6 recordIn 64 (drop 26 ws);
+      all = groups-length width recordIn 64 (drop 26 ws);
       records = records-fit 64 (drop 26 ws) (dropped-below 26 ws h);
     }
 

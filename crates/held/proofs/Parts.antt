@@ -8,7 +8,7 @@ use native.Mathlib.Omega.{arith}
 use lib.Dec.{eqb}
 use lib.ListN.{length, take, drop, getD}
 use lib.Seq.{getD-drop, take-at, drop-at}
-use Rattle.document.specs.Words.{Words, kindWords, allWords, row, rows, flag, dateWords, textWords, headWords, tableWords}
+use Rattle.document.specs.Words.{Words, width, kindWords, allWords, row, rows, flag, dateWords, textWords, headWords, tableWords}
 use Rattle.document.specs.declared.table.Text.{Text}
 use Rattle.document.specs.declared.table.Date.{Date}
 use Rattle.document.specs.declared.table.Date.the-variants as D
@@ -19,7 +19,7 @@ use Rattle.document.specs.declared.table.Record.{Record}
 use Rattle.document.specs.declared.table.Table.{Table}
 use Rattle.kinds.specs.Kinds.{kindOf, recordIn, groups}
 use Rattle.area.specs.Area.{dateOf, dateIn, headIn, tableOfNumbers}
-use Rattle.words.proofs.Rowed.{rows-length}
+use Rattle.document.proofs.WordRows.{records-length}
 use Rattle.area.proofs.Laid.{date-length, head-front, head-length}
 use Rattle.held.specs.Fits.{U64, TextFits, DateFits, KindFits, AllFit, Fitting}
 
@@ -49,11 +49,11 @@ module _ (n : ℕ) (rest : List ℕ) where
   kind-back (K.AtTime a) h = rw (mod-eq-of-lt h)
   kind-back (K.InSegment a) h = rw (mod-eq-of-lt h)
 
-records-back : (rs : List Record) → AllFit rs → groups 6 recordIn (length rs) (rows (allWords rs)) ≡ rs
+records-back : (rs : List Record) → AllFit rs → groups width recordIn (length rs) (rows (allWords rs)) ≡ rs
 unfolding groups
 records-back [] h = refl
 records-back (r ∷ rs) h =
-    ap (λ (x : Record). x ∷ groups 6 recordIn (length rs) (rows (allWords rs))) (kind-back (r .below) (rows (allWords rs)) (r .kind) (h .0 .0))
+    ap (λ (x : Record). x ∷ groups width recordIn (length rs) (rows (allWords rs))) (kind-back (r .below) (rows (allWords rs)) (r .kind) (h .0 .0))
     ∙ ap (λ (l : List Record). r ∷ l) (records-back rs (h .1))
 
 date-back : (d : Date) (k : List ℕ) → DateFits d → dateIn (dateWords d k) ≡ d
@@ -110,8 +110,8 @@ numbers-one t f =
     let texts : List ℕ = flag (h .reserve) ∷ h .meal ∷ textWords (h .unit) (textWords (h .instructions) (textWords (h .roa) (textWords (h .moa) rest))) in
     let at : (i : ℕ) → getD (tableWords t) (14 + i) 0 ≡ getD texts i 0 = behind (h .from) (h .to) texts in
     let all = words-behind t in
-    let records : groups 6 recordIn 64 (drop 26 (tableWords t)) ≡ t .records =
-    ap (groups 6 recordIn 64) all ∙ ap (λ (n : ℕ). groups 6 recordIn n (rows (allWords (t .records)))) (sym (f .all)) ∙ records-back (t .records) (f .records) in
+    let records : groups width recordIn 64 (drop 26 (tableWords t)) ≡ t .records =
+    ap (groups width recordIn 64) all ∙ ap (λ (n : ℕ). groups width recordIn n (rows (allWords (t .records)))) (sym (f .all)) ∙ records-back (t .records) (f .records) in
     let to : dateIn (drop 7 (tableWords t)) ≡ h .to = ap dateIn (date-behind (h .from) (dateWords (h .to) texts)) ∙ date-back (h .to) texts (g .to) in
     rw (date-back (h .from) (dateWords (h .to) texts) (g .from), at 0, at 1, at 2, at 3, at 4, at 5, at 6, at 7, at 8, at 9, at 10, at 11, records, to, flag-back (h .reserve), mod-eq-of-lt (g .meal))
 
@@ -185,5 +185,5 @@ pub table-length : (t : Table) → length (t .records) ≡ 64 → length (tableW
 unfolding tableWords
 table-length t e =
     let h = t .head in
-    let r = rows-length (t .records) in
+    let r = records-length (t .records) in
     date-length (h .from) _ ∙ ap (λ (n : ℕ). n + 7) (date-length (h .to) _) ∙ omega arith

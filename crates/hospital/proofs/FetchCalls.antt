@@ -11,8 +11,8 @@ use Rattle.document.specs.Plain.{plain}
 use Rattle.document.specs.Answer as R
 use Rattle.document.specs.Answer.{Read, read, bufferAfter}
 use Rattle.document.specs.Write.{greatestRoom}
-use Rattle.document.proofs.Spelled.{accepted-spells, one-posology}
-use Rattle.document.proofs.PlainTexts.{plain-reads}
+use Rattle.meaning.proofs.Spelled.{accepted-spells, one-posology}
+use Rattle.meaning.proofs.PlainTexts.{plain-reads}
 use Rattle.telling.specs.Telling.{tells}
 use Rattle.telling.specs.declared.Told.{Told}
 use Rattle.area.specs.Area.{areaBytes}

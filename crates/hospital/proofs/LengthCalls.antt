@@ -13,7 +13,7 @@ use Rattle.document.specs.Values.{Values, accepted, ends, blanksOnly, number}
 use Rattle.document.specs.Write.{Write, readable, refuses, write, writeValues}
 use Rattle.document.specs.Length.{bound, greatestLength, lengthOf, needed}
 use Rattle.document.specs.declared.table.Table.{Table}
-use Rattle.document.proofs.TableLengths.{toldBy, plainLength, length-by, written-needed, length-bounded}
+use Rattle.meaning.proofs.TableLengths.{toldBy, plainLength, length-by, written-needed, length-bounded}
 use Rattle.telling.specs.Telling.{tells, told}
 use Rattle.telling.specs.declared.Told.{Told}
 use Rattle.area.specs.Area.{areaBytes, tableIn, isArea}

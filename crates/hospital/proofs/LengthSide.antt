@@ -7,7 +7,7 @@ use lib.ListN.{length}
 use Rattle.document.specs.Values.{Values, ends}
 use Rattle.document.specs.Write.{Write, write, writeValues, bufferAfter}
 use Rattle.document.specs.Length.{bound, greatestLength}
-use Rattle.document.proofs.TableLengths.{length-fits, length-exceeds}
+use Rattle.meaning.proofs.TableLengths.{length-fits, length-exceeds}
 use Rattle.telling.specs.Telling.{told}
 use Rattle.telling.specs.declared.Told.{Told}
 use Rattle.area.specs.Area.{tableIn}

@@ -11,6 +11,7 @@ use lib.ListN.{length, drop, set, getD, replicate, length-append, length-replica
 use lib.Seq.{drop-drop, set-at, append-snoc, getD-append-add}
 use borrow.Author.Tests.{leb-true}
 use Rattle.document.specs.Table.{noRecord}
+use Rattle.document.specs.Words.{width}
 use Rattle.document.specs.declared.table.Record.{Record}
 use Rattle.kinds.specs.Kinds.{groups, recordIn, atMost, recordsIn}
 
@@ -62,20 +63,20 @@ module _ (n : ℕ) (ws : List ℕ) where
       few false e = omega arith
 
   abbrev made : List Record
-  made = groups 6 recordIn (atMost n) ws
+  made = groups width recordIn (atMost n) ws
 
   pub in-length : length (recordsIn n ws) ≡ 64
   unfolding recordsIn
-  in-length = length-append made (replicate (64 - atMost n) noRecord) ∙ ap (λ (k : ℕ). k + length (replicate (64 - atMost n) noRecord)) (groups-length 6 recordIn (atMost n) ws) ∙ ap (λ (k : ℕ). atMost n + k) (length-replicate (64 - atMost n) noRecord) ∙ omega (arith, at-most)
+  in-length = length-append made (replicate (64 - atMost n) noRecord) ∙ ap (λ (k : ℕ). k + length (replicate (64 - atMost n) noRecord)) (groups-length width recordIn (atMost n) ws) ∙ ap (λ (k : ℕ). atMost n + k) (length-replicate (64 - atMost n) noRecord) ∙ omega (arith, at-most)
 
-  pub in-front : (i : ℕ) → i < atMost n → recordIn (drop (i * 6) ws) ≡ getD (recordsIn n ws) i noRecord
+  pub in-front : (i : ℕ) → i < atMost n → recordIn (drop (i * width) ws) ≡ getD (recordsIn n ws) i noRecord
   unfolding recordsIn
   in-front i h =
-      sym (groups-at 6 recordIn (atMost n) i ws noRecord h) ∙ sym (List·getD-append made (replicate (64 - atMost n) noRecord) noRecord i (omega (arith, groups-length 6 recordIn (atMost n) ws)))
+      sym (groups-at width recordIn (atMost n) i ws noRecord h) ∙ sym (List·getD-append made (replicate (64 - atMost n) noRecord) noRecord i (omega (arith, groups-length width recordIn (atMost n) ws)))
 
   pub in-rest : (i : ℕ) → atMost n ≤ i → i < 64 → getD (recordsIn n ws) i noRecord ≡ noRecord
   unfolding recordsIn
   in-rest i h k =
-      let size = groups-length 6 recordIn (atMost n) ws in
+      let size = groups-length width recordIn (atMost n) ws in
       let behind : i ≡ length made + (i - atMost n) = omega arith in
       ap (λ (j : ℕ). getD (made ++ replicate (64 - atMost n) noRecord) j noRecord) behind ∙ getD-append-add made (replicate (64 - atMost n) noRecord) (i - atMost n) noRecord ∙ getD-replicate (64 - atMost n) (i - atMost n) noRecord noRecord (omega arith)

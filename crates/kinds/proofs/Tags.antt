@@ -7,6 +7,7 @@ use borrow.Author.Tests.{le-leb, lt-leb}
 use lib.ListN.{length, getD, drop, List·getD-eq-default}
 use lib.Seq.{getD-drop}
 use Rattle.document.specs.Table.{noRecord}
+use Rattle.document.specs.Words.{width}
 use Rattle.document.specs.declared.table.Kind.{Kind}
 use Rattle.document.specs.declared.table.Kind.the-variants as K
 use Rattle.document.specs.declared.table.Record.{Record}
@@ -26,10 +27,10 @@ pub record-here : (ws : List ℕ) (at : ℕ) {k : Kind} → k ≡ kindOf (getD w
 unfolding recordIn
 record-here ws at e = rw e (simp (getD-drop, add-zero))
 
-pub record-inside : (ws : List ℕ) (at : ℕ) → at + 6 ≤ length ws → recordAt ws at ≡ recordIn (drop at ws)
+pub record-inside : (ws : List ℕ) (at : ℕ) → at + width ≤ length ws → recordAt ws at ≡ recordIn (drop at ws)
 unfolding recordAt
-record-inside ws at h = rw (le-leb (at + 6) (length ws) h)
+record-inside ws at h = rw (le-leb (at + width) (length ws) h)
 
-pub record-outside : (ws : List ℕ) (at : ℕ) → length ws < at + 6 → recordAt ws at ≡ noRecord
+pub record-outside : (ws : List ℕ) (at : ℕ) → length ws < at + width → recordAt ws at ≡ noRecord
 unfolding recordAt
-record-outside ws at h = rw (lt-leb (at + 6) (length ws) h)
+record-outside ws at h = rw (lt-leb (at + width) (length ws) h)

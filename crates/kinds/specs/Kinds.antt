@@ -5,6 +5,7 @@ use mathlib.Core.Bool.{cond}
 use lib.Dec.{leb}
 use lib.ListN.{length, drop, getD, replicate}
 use Rattle.document.specs.Table.{noRecord}
+use Rattle.document.specs.Words.{width}
 use Rattle.document.specs.declared.table.Dosage.the-variants as S
 use Rattle.document.specs.declared.table.Kind.{Kind}
 use Rattle.document.specs.declared.table.Kind.the-variants as K
@@ -54,7 +55,7 @@ recordIn ws = record { kind = kindOf (getD ws 0 0) (getD ws 2 0) (getD ws 3 0) (
 -- The record of the six numbers at a place; an unused one where there are fewer.
 unfoldable pub recordAt : List ℕ → ℕ → Record
 unfolding recordIn
-recordAt ws at = cond (leb (at + 6) (length ws)) (recordIn (drop at ws)) noRecord
+recordAt ws at = cond (leb (at + width) (length ws)) (recordIn (drop at ws)) noRecord
 
 -- What is made of each of n groups of so many numbers, one behind the other.
 unfoldable pub groups : {A : Type 0} → ℕ → (List ℕ → A) → ℕ → List ℕ → List A
@@ -68,4 +69,4 @@ atMost n = cond (leb n 64) n 64
 -- The records that so many groups of six words make, and unused ones behind them.
 unfoldable pub recordsIn : ℕ → List ℕ → List Record
 unfolding recordIn groups
-recordsIn n ws = groups 6 recordIn (atMost n) ws ++ replicate (64 - atMost n) noRecord
+recordsIn n ws = groups width recordIn (atMost n) ws ++ replicate (64 - atMost n) noRecord

@@ -4,6 +4,7 @@ use document::table::Kind;
 use document::table::RECORDS;
 use document::table::Record;
 use document::table::Text;
+use document::table::WIDTH;
 ghost use mathlib.Core.Path.{_≡_};
 ghost use Prim.Native.Nat.{ℕ, _≤_, _<_};
 ghost use Rattle.document.specs.Table.{noRecord};
@@ -120,14 +121,14 @@ fn no_record() -> Record
     }
 }
 
-// The record of the six words at a place; an unused one where there are fewer.
+// The record of the words at a place; an unused one where there are fewer than a record has.
 pub fn record_at(words: &[u64], at: usize) -> Record
     ensures { λ r. ⌜ r ≡ recordAt (now (words .entry)) at ⌝ }
 {
-    if words.len() < 6 {
+    if words.len() < WIDTH {
         return no_record();
     }
-    if words.len() - 6 < at {
+    if words.len() - WIDTH < at {
         return no_record();
     }
     Record {

@@ -21,9 +21,9 @@ use Rattle.document.specs.Length.{greatestLength}
 use Rattle.document.specs.declared.table.Table.{Table}
 use Rattle.document.specs.declared.table.Reading.{Reading}
 use Rattle.document.specs.declared.table.Answer.the-variants as A
-use Rattle.document.proofs.Lengths.{plain-within}
+use Rattle.meaning.proofs.Lengths.{plain-within}
 use Rattle.document.proofs.Tables.{own-written}
-use Rattle.document.proofs.Spelled.{accepted-spells}
+use Rattle.meaning.proofs.Spelled.{accepted-spells}
 use Rattle.putting.specs.Puts.{greatestPlace, Puts}
 use Rattle.putting.proofs.Laid.{up-to, puts-then}
 use Rattle.lines.specs.Lines.{forPlan, lineFeed, refusalLine, writtenLine, lineOf, line}

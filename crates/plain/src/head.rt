@@ -7,7 +7,7 @@ use printing;
 use putting;
 use quoting;
 ghost use mathlib.Core.Path.{_≡_};
-ghost use mathlib.Core.List.{List, [], _∷_, _++_};
+ghost use mathlib.Core.List.{List, _∷_, _++_};
 ghost use mathlib.Core.Bool.{true, cond};
 ghost use Prim.Native.Nat.{ℕ, _≤_};
 ghost use Rattle.json.specs.Tree.{Tree};
@@ -119,24 +119,32 @@ fn put_strings(out: &mut [u8], from: usize, buffer: &[u8], h: Head) -> usize
     put_text(out, at, b",\"moa\":", buffer, moa)
 }
 
-fn put_front(out: &mut [u8], h: Head) -> usize
-    ensures { λ r. ⌜ ((k : List ℕ) → ifGiven isDate (dateOf (h .from)) ≡ true → ifGiven isDate (dateOf (h .to)) ≡ true → Puts (now (out .entry)) 0 (frontFields h k) k r (now (out .exit))) ⌝ }
+fn put_front(out: &mut [u8], from: usize, h: Head) -> usize
+    ensures { λ r. ⌜ ((k : List ℕ) → ifGiven isDate (dateOf (h .from)) ≡ true → ifGiven isDate (dateOf (h .to)) ≡ true → Puts (now (out .entry)) from (frontFields h k) k r (now (out .exit))) ⌝ }
 {
-    let at = putting::put(out, 0, b'{');
-    let from = h.from;
-    let at = put_date(out, at, b"\"dtFrom\":\"", from);
-    let to = h.to;
-    let at = put_date(out, at, b"\"dtTo\":\"", to);
+    let first = h.from;
+    let last = h.to;
+    let at = putting::put(out, from, b'{');
+    let at = put_date(out, at, b"\"dtFrom\":\"", first);
+    let at = put_date(out, at, b"\"dtTo\":\"", last);
     let at = put_reserve(out, at, h.reserve);
     putting::put_all(out, at, b"\"po\":")
 }
 
-// The whole text from the buffer's start on, as far as it reaches; the answer is the text's length.
-pub fn put_posology(out: &mut [u8], h: Head, words: &[u64], buffer: &[u8]) -> usize
-    ensures { λ r. ⌜ ((t : Tree) → Writable (now (buffer .entry)) h → DetailPrints (now (words .entry)) (now (buffer .entry)) 3 0 t → Puts (now (out .entry)) 0 (headFields (now (buffer .entry)) h t []) [] r (now (out .exit))) ⌝ }
+// The whole text from a place of the buffer on, as far as it reaches; the answer is the place behind it.
+// The records of its detail begin at record i.
+pub fn put_posology(
+    out: &mut [u8],
+    from: usize,
+    h: Head,
+    words: &[u64],
+    i: usize,
+    buffer: &[u8],
+) -> usize
+    ensures { λ r. ⌜ ((t : Tree) (k : List ℕ) → Writable (now (buffer .entry)) h → DetailPrints (now (words .entry)) (now (buffer .entry)) 3 i t → Puts (now (out .entry)) from (headFields (now (buffer .entry)) h t k) k r (now (out .exit))) ⌝ }
 {
-    let at = put_front(out, h);
-    let at = details::put_po(words, buffer, out, at);
+    let at = put_front(out, from, h);
+    let at = details::put_po(words, i, buffer, out, at);
     let at = put_meal(out, at, h.meal);
     let at = put_strings(out, at, buffer, h);
     putting::put(out, at, b'}')

@@ -14,7 +14,7 @@ use Rattle.document.specs.Schema.{aPosology}
 use Rattle.document.specs.Table.{emptyTable}
 use Rattle.document.specs.Valid.{roomOf, valid, strings}
 use Rattle.document.specs.Visit.{Outcome, done, members, entriesOf, visit}
-use Rattle.document.proofs.Accepts.{taken-means}
+use Rattle.meaning.proofs.Accepts.{taken-means}
 use Rattle.texts.specs.Texts.{oneText}
 use Rattle.texts.specs.declared.OneText.{OneText}
 use Rattle.texts.specs.declared.OneText.the-variants as O

@@ -16,8 +16,8 @@ use Rattle.spelling.proofs.Shorter.{value-shorter}
 use Rattle.spelling.proofs.Spells.{run-sound}
 use Rattle.document.specs.Schema.{anObject, aPosology}
 use Rattle.document.specs.Visit.{Value, entriesOf, members, visit}
-use Rattle.document.proofs.Sound.{Utf8Tree}
-use Rattle.document.proofs.Utf8Texts.{value-utf8}
+use Rattle.meaning.proofs.Sound.{Utf8Tree}
+use Rattle.meaning.proofs.Utf8Texts.{value-utf8}
 use Rattle.document.specs.At.{At}
 use Rattle.dosages.specs.Visiting.{leftOf}
 

@@ -1,6 +1,5 @@
-// The records as they are read: six words each, in visiting order: tag, records below, four values.
+// The records as they are read, in visiting order.
 use document::table::RECORDS;
-use document::table::WORDS;
 use fields::field::Field;
 use fields::field::Found;
 use fields::field::Worded;
@@ -8,7 +7,8 @@ ghost use mathlib.Core.Path.{_≡_};
 ghost use Prim.Native.Nat.{ℕ, _-_};
 ghost use lib.Dec.{leb};
 ghost use Rattle.document.specs.Words.{words as wordsOf};
-ghost use Rattle.records.specs.Records.{oneMore, written};
+ghost use Rattle.table_rows.specs.Storing.{written};
+ghost use Rattle.records.specs.Records.{oneMore};
 
 // Records and text bytes taken so far.
 pub struct Used {
@@ -31,19 +31,7 @@ pub fn is_full(used: Used) -> bool
 pub fn put(words: &mut [u64], i: usize, tag: u64, below: usize, a: u64, b: u64, c: u64, d: u64)
     ensures { λ _. ⌜ now (words .exit) ≡ written (now (words .entry)) i (wordsOf below tag a b c d) ⌝ }
 {
-    if words.len() != WORDS {
-        return;
-    }
-    if RECORDS <= i {
-        return;
-    }
-    let at = i * 6;
-    words[at] = tag;
-    words[at + 1] = below as u64;
-    words[at + 2] = a;
-    words[at + 3] = b;
-    words[at + 4] = c;
-    words[at + 5] = d;
+    table_rows::put(words, i, tag, below, a, b, c, d);
 }
 
 // A record that has no other below it.

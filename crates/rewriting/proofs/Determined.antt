@@ -3,7 +3,7 @@ use Prim.Native.Nat.{ℕ}
 use mathlib.Core.Path.{_≡_, sym, _∙_}
 use mathlib.Core.List.{List}
 use Rattle.document.specs.declared.table.Writing.{Writing}
-use Rattle.document.proofs.Numbered.{writing-one}
+use Rattle.meaning.proofs.Numbered.{writing-one}
 use Rattle.rewriting.specs.Rewriting.{Rewrites}
 
 pub determined-rewrite : {purpose : ℕ} {text before after after′ : List ℕ} {r r′ : Writing} → Rewrites purpose text before r after

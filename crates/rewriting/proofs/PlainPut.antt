@@ -17,7 +17,7 @@ use Rattle.document.specs.Write.{greatestRoom, readable}
 use Rattle.document.specs.Length.{greatestLength}
 use Rattle.document.specs.declared.table.Head.{Head}
 use Rattle.document.specs.declared.table.Table.{Table}
-use Rattle.document.proofs.Lengths.{plain-within}
+use Rattle.meaning.proofs.Lengths.{plain-within}
 use Rattle.document.proofs.Tables.{own-readable}
 use Rattle.document.proofs.Untabled.{untabled}
 use Rattle.putting.specs.Puts.{Puts}

@@ -7,7 +7,7 @@ use lib.ListN.{length, drop}
 use Rattle.json.proofs.Truth.{never}
 use Rattle.document.specs.Valid.{roomOf, strings}
 use Rattle.document.specs.Table.{tableOf}
-use Rattle.document.specs.Words.{allWords, rows}
+use Rattle.document.specs.Words.{width, wordsAtMost, allWords, rows}
 use Rattle.document.specs.Values.{accepted, ends, number, writingValues}
 use Rattle.document.specs.Answer as A
 use Rattle.document.specs.Answer.{Read, taken, refused, read, readValues, tableAfter}
@@ -16,10 +16,10 @@ use Rattle.document.specs.Length.{greatestLength}
 use Rattle.document.specs.declared.table.Head.{Head}
 use Rattle.document.specs.declared.table.Writing.{Writing}
 use Rattle.document.specs.declared.table.Writing.the-variants.{Written, Refused}
-use Rattle.document.proofs.Spelled.{accepted-spells}
+use Rattle.document.proofs.WordRows.{records-length}
+use Rattle.meaning.proofs.Spelled.{accepted-spells}
 use Rattle.kinds.specs.Kinds.{recordsIn}
 use Rattle.kinds.proofs.Fill.{in-length}
-use Rattle.words.proofs.Rowed.{rows-length}
 use Rattle.records.specs.declared.read.HeadRead.{HeadRead}
 use Rattle.building.specs.Built.{headCells, built}
 use Rattle.posology.specs.Reader.{WordsOf, ReadsWords}
@@ -27,8 +27,8 @@ use Rattle.posology.proofs.Answers.{refused-values, taken-values, taken-table}
 use Rattle.rewriting.specs.Rewriting.{plainOfRead, rewritten, Rewrites}
 use Rattle.rewriting.proofs.PlainPut.{Printed, plain-put}
 
-pub tidied-length : {tidied : List ℕ} (n : ℕ) (ws : List ℕ) → tidied ≡ rows (allWords (recordsIn n ws)) → 384 ≡ length tidied
-tidied-length n ws e = sym (ap length e ∙ rows-length (recordsIn n ws) ∙ ap (λ (k : ℕ). k * 6) (in-length n ws))
+pub tidied-length : {tidied : List ℕ} (n : ℕ) (ws : List ℕ) → tidied ≡ rows (allWords (recordsIn n ws)) → wordsAtMost ≡ length tidied
+tidied-length n ws e = sym (ap length e ∙ records-length (recordsIn n ws) ∙ ap (λ (k : ℕ). k * width) (in-length n ws))
 
 rewrites : {purpose : ℕ} {text before after : List ℕ} {r : Writing} {x : Read} → read purpose greatestRoom text ≡ x
     → writingValues r ≡ writeValues (plainOfRead x) → after ≡ bufferAfter (plainOfRead x) before → Rewrites purpose text before r after

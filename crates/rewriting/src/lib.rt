@@ -19,6 +19,6 @@ pub fn rewrite(text: &[u8], purpose: u64, out: &mut [u8; LONGEST_PLAIN]) -> Writ
         };
     }
     words::tidy(&mut rows, h.used.records);
-    let n = plain::put_posology(out, building::head_of(h), &rows, &strings);
+    let n = plain::put_posology(out, 0, building::head_of(h), &rows, 0, &strings);
     Writing::Written { length: n }
 }

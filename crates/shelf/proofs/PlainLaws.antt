@@ -14,7 +14,7 @@ use Rattle.document.specs.Answer.{Read, taken, refused, read}
 use Rattle.document.specs.Write.{greatestRoom}
 use Rattle.document.specs.Length.{greatestLength}
 use Rattle.document.specs.declared.table.Writing.the-variants as W
-use Rattle.document.proofs.Lengths.{plain-within}
+use Rattle.meaning.proofs.Lengths.{plain-within}
 use Rattle.document.proofs.Same.{same-refl, same-equal}
 use Rattle.shelf_list.specs.Shelf.{bothUses, isGiven, ifPlain, plainOf, isPlain}
 use Rattle.shelf_list.proofs.Records.{plain-of-text}

@@ -16,7 +16,7 @@ use Rattle.document.specs.Plain.{plain}
 use Rattle.document.specs.Answer as R
 use Rattle.document.specs.Answer.{read}
 use Rattle.document.specs.Write.{greatestRoom}
-use Rattle.document.proofs.Lengths.{plain-within}
+use Rattle.meaning.proofs.Lengths.{plain-within}
 use Rattle.rewriting.proofs.Reread.{ReadAs}
 use Rattle.shelf_list.specs.Shelf.{bothUses, Entry, entry, isNumber, twoBytes, recordThen, size, used, laidOut, stands, Holds, entriesIn}
 use Rattle.shelf_list.specs.Calls.{Call, put, remove, at, Answer, stored, removed, standing, refused, answers, without, roomFor, onList, laidAgain, onArea, Outcome, Serves}

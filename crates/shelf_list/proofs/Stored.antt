@@ -15,8 +15,8 @@ use Rattle.document.specs.Plain.{plain}
 use Rattle.document.specs.Answer as R
 use Rattle.document.specs.Answer.{read}
 use Rattle.document.specs.Write.{greatestRoom}
-use Rattle.document.proofs.Spelled.{accepted-spells}
-use Rattle.document.proofs.PlainTexts.{plain-reads}
+use Rattle.meaning.proofs.Spelled.{accepted-spells}
+use Rattle.meaning.proofs.PlainTexts.{plain-reads}
 use Rattle.shelf_list.specs.Shelf.{Entry, entry, isNumber, bothUses, size, used, stands, goodEntry}
 use Rattle.shelf_list.specs.Calls.{put, remove, stored, refused, Outcome, without, under, roomFor, putOn, fetchUnder, fetchFrom, onList}
 use Rattle.demands.proofs.PlanPrescribed.{valid-for-both}

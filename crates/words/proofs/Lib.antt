@@ -1,5 +1,4 @@
 -- What the proofs of several functions use.
-mod Sets
+mod Laid
 mod Anew
-pub mod Rowed
 pub mod OneTable

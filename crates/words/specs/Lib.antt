@@ -1,4 +1,3 @@
 pub mod ByWords
 pub mod Laid
 pub mod Laying
-pub mod Standing

@@ -1,16 +1,16 @@
-// A table's records as words, six each: tag, records below, four values (document's Words).
+// A table's records as words: tag, records below, four values (document's Words).
 use document::table::Dosage;
 use document::table::Kind;
 use document::table::RECORDS;
 use document::table::Record;
 use document::table::Table;
+use document::table::WIDTH;
 use document::table::WORDS;
 ghost use mathlib.Core.Path.{_≡_};
-ghost use mathlib.Core.List.{List, []};
-ghost use Prim.Native.Nat.{_*_, _<_, _≤_};
+ghost use mathlib.Core.List.{List};
+ghost use Prim.Native.Nat.{_≤_};
 ghost use lib.ListN.{length};
-ghost use lib.Seq.{sets};
-ghost use Rattle.document.specs.Words.{dosageWords, kindWords, allWords, row, rows};
+ghost use Rattle.document.specs.Words.{wordsAtMost, dosageWords, kindWords, allWords, rows};
 ghost use Rattle.document.specs.declared.table.Record.{Record};
 ghost use Rattle.kinds.specs.Kinds.{recordsIn};
 ghost use Rattle.words.specs.Laid.{over};
@@ -186,20 +186,7 @@ fn kind_words(k: Kind) -> Words
     }
 }
 
-fn lay(out: &mut [u64], i: usize, below: usize, w: Words)
-    requires { ⌜ (i < 64) × (length (now out) ≡ 384) ⌝ }
-    ensures { λ _. ⌜ now (out .exit) ≡ sets (now (out .entry)) (i * 6) (row (over below w) []) ⌝ }
-{
-    let at = i * 6;
-    out[at] = w.tag;
-    out[at + 1] = below as u64;
-    out[at + 2] = w.a;
-    out[at + 3] = w.b;
-    out[at + 4] = w.c;
-    out[at + 5] = w.d;
-}
-
-// The words of the table's records, 384 of them.
+// The words of the table's records.
 pub fn table_words(t: Table) -> [u64; WORDS]
     ensures { λ r. ⌜ r ≡ rows (allWords (t .records)) ⌝ }
 {
@@ -209,7 +196,8 @@ pub fn table_words(t: Table) -> [u64; WORDS]
     while i < RECORDS {
         let r = records[i];
         let k = r.kind;
-        lay(&mut out, i, r.below, kind_words(k));
+        let w = kind_words(k);
+        table_rows::put(&mut out, i, w.tag, r.below, w.a, w.b, w.c, w.d);
         i += 1;
     }
     out
@@ -217,34 +205,28 @@ pub fn table_words(t: Table) -> [u64; WORDS]
 
 // From record `from` on the words are those of unused records.
 fn lay_unused(words: &mut [u64], from: usize)
-    requires { ⌜ length (now words) ≡ 384 ⌝ }
+    requires { ⌜ length (now words) ≡ wordsAtMost ⌝ }
     ensures { λ _. ⌜ ((rs : List Record) → Upto rs (now (words .entry)) from → Unused rs from → now (words .exit) ≡ rows (allWords rs)) ⌝ }
 {
-    let none = Words {
-        tag: 0,
-        a: 0,
-        b: 0,
-        c: 0,
-        d: 0,
-    };
     let mut i = from;
     while i < RECORDS {
-        lay(words, i, 0, none);
+        table_rows::put(words, i, 0, 0, 0, 0, 0, 0);
         i += 1;
     }
 }
 
 // The first records' words, made anew: a value that a record does not hold, as the quote's place of a FreeText, is not kept.
 fn lay_made(words: &mut [u64], count: usize)
-    requires { ⌜ (length (now words) ≡ 384) × (count ≤ 64) ⌝ }
+    requires { ⌜ (length (now words) ≡ wordsAtMost) × (count ≤ 64) ⌝ }
     ensures { λ _. ⌜ ((rs : List Record) → Makes rs count (now (words .entry)) → Upto rs (now (words .exit)) count) ⌝ }
-    ensures { λ _. ⌜ length (now (words .exit)) ≡ 384 ⌝ }
+    ensures { λ _. ⌜ length (now (words .exit)) ≡ wordsAtMost ⌝ }
 {
     let mut i = 0;
     while i < count {
-        let r = kinds::record_at(words, i * 6);
+        let r = kinds::record_at(words, i * WIDTH);
         let k = r.kind;
-        lay(words, i, r.below, kind_words(k));
+        let w = kind_words(k);
+        table_rows::put(words, i, w.tag, r.below, w.a, w.b, w.c, w.d);
         i += 1;
     }
 }

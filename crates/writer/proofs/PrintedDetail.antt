@@ -17,7 +17,7 @@ use Rattle.document.specs.Plain.{textTree, field, typed, detailTree, objectTree
 use Rattle.document.specs.declared.table.Record.{Record}
 use Rattle.document.proofs.DetailParts.{daily-parts, cyclic-parts, sequence-parts, posology-sequence-parts, pause-parts, objects-parts}
 use Rattle.document.proofs.Untables.{joined-append}
-use Rattle.words.specs.Standing.{belowAt, Lies}
+use Rattle.table_rows.specs.Standing.{belowAt, Lies}
 use Rattle.checking.proofs.FoundDetail.{object-found}
 use Rattle.writer.proofs.Printed.{amount, duration, unit, timed-prints}
 use Rattle.details.specs.Prints.{DetailPrints, daily, freeText, single, cyclic, sequence, ObjectPrints, posology, pause, ObjectsPrint, none, more}

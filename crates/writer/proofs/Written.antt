@@ -23,7 +23,7 @@ use Rattle.document.specs.declared.table.Writing.{Writing}
 use Rattle.document.specs.declared.table.Writing.the-variants.{Written, Refused}
 use Rattle.document.proofs.Untables.{detail-append}
 use Rattle.document.proofs.Untabled.{bytesOf, strings-append}
-use Rattle.document.proofs.TableLengths.{readable-length}
+use Rattle.meaning.proofs.TableLengths.{readable-length}
 use Rattle.checking.specs.Readable.{PieceAt, absent, present}
 use Rattle.checking.proofs.Read.{readable-laid}
 use Rattle.document.proofs.ValidParts.{valid-parts}

@@ -42,14 +42,14 @@ fn write_measured(h: Head, words: &[u64], strings: &[u8], out: &mut [u8]) -> Wri
     ensures { λ r. ⌜ ((t : Tree) → Writable (now (strings .entry)) h → DetailPrints (now (words .entry)) (now (strings .entry)) 3 0 t → length (headFields (now (strings .entry)) h t []) ≤ greatestPlace → Fits (headFields (now (strings .entry)) h t []) (now (out .entry)) r (now (out .exit))) ⌝ }
 {
     let mut nowhere = [0u8; 1];
-    let n = plain::put_posology(&mut nowhere, h, words, strings);
+    let n = plain::put_posology(&mut nowhere, 0, h, words, 0, strings);
     if out.len() < n {
         return Writing::Refused {
             number: 19,
             place: n,
         };
     }
-    let _ = plain::put_posology(out, h, words, strings);
+    let _ = plain::put_posology(out, 0, h, words, 0, strings);
     Writing::Written { length: n }
 }
 
@@ -67,7 +67,7 @@ fn write_fitting(
 {
     if longest(count, text) <= out.len() {
         return Writing::Written {
-            length: plain::put_posology(out, h, words, strings),
+            length: plain::put_posology(out, 0, h, words, 0, strings),
         };
     }
     write_measured(h, words, strings, out)

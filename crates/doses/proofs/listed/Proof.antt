@@ -14,18 +14,18 @@ below-requires : tie.Need-below-requires
 below-requires c κs = search needs
 
 add-end : tie.Need-add-end
-add-end c = let r = c .before .before .row .ensures .yes (c .before .if1 .taken) in omega (arith, c .below .ensures (r .inside), r .inside, r .below-most)
+add-end c = let r = c .before .before .before .row .ensures .yes (c .before .before .if1 .taken) in omega (arith, c .below .ensures .here (r .inside), r .inside, r .below-most)
 
 applications-requires : tie.Need-applications-requires
-applications-requires c κs = let r = c .before .before .row .ensures .yes (c .before .if1 .taken) in omega (arith, c .below .ensures (r .inside), r .inside, r .below-most)
+applications-requires c κs = let r = c .before .before .before .row .ensures .yes (c .before .before .if1 .taken) in omega (arith, c .below .ensures .here (r .inside), r .inside, r .below-most)
 
 returns : tie.Need-returns
 returns c =
-    let r = c .before .before .before .before .row .ensures .yes (c .before .before .before .if1 .taken) in
-    yes-of (record { row = r; items = same-end (omega (arith, c .before .before .below .ensures (r .inside))) (c .before .applications .ensures .yes (c .if2 .taken)) })
+    let r = c .before .before .before .before .before .row .ensures .yes (c .before .before .before .before .if1 .taken) in
+    yes-of (record { row = r; items = same-end (omega (arith, c .before .before .below .ensures .here (r .inside))) (c .before .applications .ensures .yes (c .if2 .taken)) })
 
 returns-2 : tie.Need-returns-2
-returns-2 c = no-of (λ p. c .before .applications .ensures .no (c .if2 .left) (same-end (omega (arith, c .before .before .below .ensures (p .row .inside))) (p .items)))
+returns-2 c = no-of (λ p. c .before .applications .ensures .no (c .if2 .left) (same-end (omega (arith, c .before .before .below .ensures .here (p .row .inside))) (p .items)))
 
 returns-3 : tie.Need-returns-3
 returns-3 c = no-of (λ p. c .before .row .ensures .no (c .if1 .left) (p .row))

@@ -5,6 +5,7 @@ use mathlib.Core.List.{List, _++_}
 use native.Mathlib.Omega.{arith}
 use borrow.Author.Needs.{needs}
 use lib.ListN.{drop, set, replicate}
+use Rattle.document.specs.Words.{wordsAtMost}
 use Rattle.kinds.specs.Kinds.{groups}
 use Rattle.kinds.proofs.Fill.{groups-set, groups-full}
 use Rattle.eights.specs.Eights.{numberIn}
@@ -13,10 +14,10 @@ use Rattle.held.proofs.words_in.Statement.{statement}
 use Rattle.held.proofs.words_in.Tie as tie
 
 abbrev Inv-loop : tie.InvT-loop
-Inv-loop area words₀ i₀ words i = (i ≤ 384) × (words ≡ numbersFrom 208 i area ++ replicate (384 - i) 0)
+Inv-loop area words₀ i₀ words i = (i ≤ wordsAtMost) × (words ≡ numbersFrom 208 i area ++ replicate (wordsAtMost - i) 0)
 
 abbrev μ-loop : tie.MeasureT-loop
-μ-loop area words₀ i₀ words i = 384 - i
+μ-loop area words₀ i₀ words i = wordsAtMost - i
 
 whole-words-requires : tie.Need-whole-words-requires Inv-loop μ-loop
 whole-words-requires c κs = search needs
@@ -56,13 +57,13 @@ loop-again c =
     let x = c .number-at .result in (
       omega arith,
       ap (λ (ns : List ℕ). set ns i x) (c .before .before .loop .inv .1)
-          ∙ groups-set 8 (numberIn 8) 384 i (drop 208 area) 0 x (omega arith) (c .number-at .ensures ∙ number-of 208 i area),
+          ∙ groups-set 8 (numberIn 8) wordsAtMost i (drop 208 area) 0 x (omega arith) (c .number-at .ensures ∙ number-of 208 i area),
     )
 
 returns-2 : tie.Need-returns-2 Inv-loop μ-loop
 returns-2 c =
     let area = c .before .before .before .before .args .area .now in
-    c .before .loop .inv .1 ∙ groups-full 8 (numberIn 8) 384 (c .before .loop .i) (drop 208 area) 0 (omega arith) ∙ record-numbers area
+    c .before .loop .inv .1 ∙ groups-full 8 (numberIn 8) wordsAtMost (c .before .loop .i) (drop 208 area) 0 (omega arith) ∙ record-numbers area
 
 pub words-in-spec : {M : Type 1} → statement M
 words-in-spec =

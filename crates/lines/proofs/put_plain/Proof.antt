@@ -6,7 +6,7 @@ use lib.ListN.{length}
 use Rattle.document.specs.Values.{writingValues}
 use Rattle.document.specs.Plain.{plain}
 use Rattle.document.specs.Write.{writeValues, bufferAfter, Write}
-use Rattle.document.proofs.Lengths.{plain-within}
+use Rattle.meaning.proofs.Lengths.{plain-within}
 use Rattle.lines.specs.Lines.{forPlan}
 use Rattle.lines.proofs.Printed.{line-written, line-refused, refused-near, plain-fitting}
 use borrow.Author.Needs.{needs}

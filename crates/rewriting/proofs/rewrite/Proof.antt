@@ -1,5 +1,6 @@
 -- What was read is put once: the buffer holds every plain text.
 use Prim.Native.Nat.{ℕ}
+use mathlib.Core.List.{[]}
 use native.Mathlib.Omega.{arith}
 use lib.ListN.{length-replicate}
 use borrow.Author.Needs.{needs}
@@ -42,7 +43,7 @@ returns-2 c =
     let read = taken .before .before in
     let start = read .before .before .before .before in
     taken-rewritten (start .args .purpose) (start .args .text .now) _ _ _ _ (length-replicate {A = ℕ} 2048 0) (read .read-words .ensures)
-    (taken .if1 .left) (tidied .tidy .ensures) (topped .head-of .ensures) (omega (arith, start .good)) (c .put-posology .ensures)
+    (taken .if1 .left) (tidied .tidy .ensures) (topped .head-of .ensures) (omega (arith, start .good)) (λ d w p. c .put-posology .ensures d [] w p)
 
 pub rewrite-spec : {M : Type 1} → statement M
 rewrite-spec =

@@ -1,23 +1,23 @@
 -- The words of the first records, made anew.
 use Prim.Native.Nat.{_*_, _-_, _≤_, _<_}
 use mathlib.Core.Path.{_≡_, refl, ap, subst, _∙_}
-use mathlib.Core.List.{List, []}
+use mathlib.Core.List.{List}
 use native.Mathlib.Omega.{arith}
 use borrow.Author.Needs.{needs}
 use lib.ListN.{length, drop}
-use lib.Seq.{length-sets}
-use Rattle.document.specs.Words.{row}
+use Rattle.document.specs.Words.{width, wordsAtMost}
 use Rattle.document.specs.declared.table.Record.{Record}
 use Rattle.kinds.specs.Kinds.{recordIn}
 use Rattle.kinds.proofs.Tags.{record-inside}
 use Rattle.words.specs.Laid.{over}
 use Rattle.words.specs.Laying.{Upto, Makes}
-use Rattle.words.proofs.Anew.{made-more, rest-kept, one-behind}
+use Rattle.table_rows.proofs.Storing.{stored-length, rest-kept}
+use Rattle.words.proofs.Anew.{made-more, one-behind}
 use Rattle.words.proofs.lay_made.Statement.{statement}
 use Rattle.words.proofs.lay_made.Tie as tie
 
 abbrev Inv-loop : tie.InvT-loop
-Inv-loop words₀ count i₀ words i = (i ≤ count) × (length words ≡ 384) × (drop (i * 6) words ≡ drop (i * 6) words₀) × ((rs : List Record) → Makes rs count words₀ → Upto rs words i)
+Inv-loop words₀ count i₀ words i = (i ≤ count) × (length words ≡ wordsAtMost) × (drop (i * width) words ≡ drop (i * width) words₀) × ((rs : List Record) → Makes rs count words₀ → Upto rs words i)
 
 abbrev μ-loop : tie.MeasureT-loop
 μ-loop words₀ count i₀ words i = count - i
@@ -34,8 +34,8 @@ record-at-requires c κs = search needs
 kind-words-requires : tie.Need-kind-words-requires Inv-loop μ-loop
 kind-words-requires c κs = search needs
 
-lay-requires : tie.Need-lay-requires Inv-loop μ-loop
-lay-requires c κs = (omega arith, c .before .before .before .before .before .loop .inv .1)
+put-requires : tie.Need-put-requires Inv-loop μ-loop
+put-requires c κs = search needs
 
 add-i : tie.Need-add-i Inv-loop μ-loop
 add-i c = omega arith
@@ -49,14 +49,14 @@ loop-again c =
     let l = c .before .before .before .before .before .before .before .before .loop in
     let there : l .i < 64 = omega arith in
     let r = c .before .before .before .before .before .record-at in
-    let k = c .before .before .before .kind-words in
-    let here = r .ensures ∙ record-inside (l .words) (l .i * 6) (omega (arith, l .inv .1)) ∙ ap recordIn (l .inv .2) in
+    let k = c .before .before .before .before .kind-words in
+    let here = r .ensures ∙ record-inside (l .words) (l .i * width) (omega (arith, l .inv .1)) ∙ ap recordIn (l .inv .2) in
     let v = over (r .result .below) (k .result) in
-    rw (c .before .before .lay .ensures) (
+    rw (c .before .before .put .ensures) (
       omega arith,
-      length-sets (l .words) (l .i * 6) (row v []) ∙ l .inv .1,
-      rest-kept (l .words) (l .i) v there (l .inv .1) ∙ one-behind (l .words) (s .args .words .now) (l .i) (l .inv .2),
-      λ rs m. made-more rs (l .words) (l .i) (k .result) there (l .inv .3 rs m) (r .result) (m .size) (here ∙ m .each (l .i) (c .before .before .before .before .before .before .before .loop-test .taken)) (k .ensures),
+      stored-length (l .words) (l .i) v (l .inv .1) there,
+      rest-kept (l .words) (l .i) v (l .inv .1) there ∙ one-behind (l .words) (s .args .words .now) (l .i) (l .inv .2),
+      λ rs m. made-more rs (l .words) (l .i) there (l .inv .3 rs m) (k .result) (r .result) (m .size) (here ∙ m .each (l .i) (c .before .before .before .before .before .before .before .loop-test .taken)) (k .ensures),
     )
 
 same-length : tie.Need-same-length Inv-loop μ-loop
@@ -78,7 +78,7 @@ lay-made-spec =
     mul-record-at
     record-at-requires
     kind-words-requires
-    lay-requires
+    put-requires
     add-i
     loop-less
     loop-again

@@ -4,7 +4,7 @@ use native.Mathlib.Omega.{arith}
 use lib.ListN.{length-map}
 use borrow.Author.Needs.{needs}
 use Rattle.words.specs.Laying.{Upto}
-use Rattle.words.proofs.Sets.{one-more, all-laid}
+use Rattle.words.proofs.Laid.{one-more, all-laid}
 use Rattle.words.proofs.table_words.Statement.{statement}
 use Rattle.words.proofs.table_words.Tie as tie
 
@@ -23,14 +23,14 @@ mul-r c = search needs
 array-copy-out-r : tie.Need-array-copy-out-r Inv-loop μ-loop
 array-copy-out-r c = search needs
 
-slice-aggregate-lay : tie.Need-slice-aggregate-lay Inv-loop μ-loop
-slice-aggregate-lay c = search needs
-
 kind-words-requires : tie.Need-kind-words-requires Inv-loop μ-loop
 kind-words-requires c κs = search needs
 
-lay-requires : tie.Need-lay-requires Inv-loop μ-loop
-lay-requires c κs = (c .before .before .before .loop-test .taken, c .before .before .before .before .loop .inv .1)
+slice-aggregate-put : tie.Need-slice-aggregate-put Inv-loop μ-loop
+slice-aggregate-put c = search needs
+
+put-requires : tie.Need-put-requires Inv-loop μ-loop
+put-requires c κs = search needs
 
 add-i : tie.Need-add-i Inv-loop μ-loop
 add-i c = search needs
@@ -40,9 +40,10 @@ loop-less c = search needs
 
 loop-again : tie.Need-loop-again Inv-loop μ-loop
 loop-again c =
-    let s = c .before .before .before .before .before .before .before .before in
-    let l = c .before .before .before .before .before .before .loop in
-    rw (c .before .lay .ensures) (one-more (s .args .t .records) (l .out) (l .i) (c .before .before .kind-words .result) (simp length-map at (s .good .0 .1 .1 .1 .1 .1 .0 .1 .0 .1)) (c .before .before .before .before .before .loop-test .taken) (l .inv) (c .before .before .kind-words .ensures))
+    let k = c .before .before .before in
+    let l = k .before .before .before .loop in
+    let s = k .before .before .before .before .before in
+    rw (c .before .put .ensures) (one-more (s .args .t .records) (l .out) (l .i) (k .kind-words .result) (simp length-map at (s .good .0 .1 .1 .1 .1 .1 .0 .1 .0 .1)) (k .before .before .loop-test .taken) (l .inv) (k .kind-words .ensures))
 
 returns : tie.Need-returns Inv-loop μ-loop
 returns c = all-laid _ _ _ (simp length-map at (c .before .before .before .good .0 .1 .1 .1 .1 .1 .0 .1 .0 .1)) (c .loop-test .left) (c .before .loop .inv)
@@ -56,9 +57,9 @@ table-words-spec =
     loop-holds
     mul-r
     array-copy-out-r
-    slice-aggregate-lay
     kind-words-requires
-    lay-requires
+    slice-aggregate-put
+    put-requires
     add-i
     loop-less
     loop-again

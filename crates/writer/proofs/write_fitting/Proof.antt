@@ -1,4 +1,5 @@
 -- The text is put once where the buffer holds the longest text of such a table.
+use mathlib.Core.List.{[]}
 use native.Mathlib.Omega.{arith}
 use borrow.Author.Needs.{needs}
 use Rattle.writer.proofs.Written.{put-fits}
@@ -19,7 +20,7 @@ returns : tie.Need-returns
 returns c =
     let start = c .before .before .before .before .before .before .before .before .before in
     let most = longest-bound (start .args .count) (start .args .text) (start .pre .0) (start .pre .1) in
-    λ t w d s. put-fits (c .before .before .put-posology .ensures t w d) (omega arith) (omega arith)
+    λ t w d s. put-fits (c .before .before .put-posology .ensures t [] w d) (omega arith) (omega arith)
 
 write-measured-requires : tie.Need-write-measured-requires
 write-measured-requires c κs = search needs

@@ -15,12 +15,12 @@ use Rattle.checking.proofs.check.+detail+object+objects+sequence.Lts-ob
 use Rattle.checking.proofs.check.sequence.Reads as sequence
 use Rattle.checking.proofs.check.sequence.Kinds as sequence-kinds
 use Rattle.checking.proofs.check.+detail+object+objects+sequence.Lts-sequence as sequence-lts
-use Rattle.doses.proofs.below.Reads as below-reads
+use Rattle.table_rows.proofs.below.Reads as below-reads
 use Rattle.checking.proofs.check.free_text.Reads as free-text-reads
 use Rattle.doses.proofs.nested.Reads as nested-reads
 use Rattle.doses.proofs.row.Reads as row-reads
 use Rattle.doses.proofs.still.Reads as still-reads
-use Rattle.checking.proofs.check.text_length.Reads as text-length-reads
+use Rattle.table_rows.proofs.b.Reads as b-reads
 use Rattle.checking.proofs.check.+detail+object+objects+sequence.{statement}
 use Rattle.checking.proofs.check.+detail+object+objects+sequence.Tie.{close}
 
@@ -66,8 +66,8 @@ detail-still-requires : (t : ℕ) → detail-lts.Need-still-requires (
   still-reads.Learnt,
   free-text-reads.Asked,
   free-text-reads.Learnt,
-  text-length-reads.Asked,
-  text-length-reads.Learnt,
+  b-reads.Asked,
+  b-reads.Learnt,
   sequence-below t,
   sequence.Post,
 ) (detail-at t) detail.Post
@@ -78,8 +78,8 @@ detail-returns : (t : ℕ) → detail-lts.Need-returns (
   still-reads.Learnt,
   free-text-reads.Asked,
   free-text-reads.Learnt,
-  text-length-reads.Asked,
-  text-length-reads.Learnt,
+  b-reads.Asked,
+  b-reads.Learnt,
   sequence-below t,
   sequence.Post,
 ) (detail-at t) detail.Post
@@ -90,56 +90,56 @@ detail-free-text-requires : (t : ℕ) → detail-lts.Need-free-text-requires (
   still-reads.Learnt,
   free-text-reads.Asked,
   free-text-reads.Learnt,
-  text-length-reads.Asked,
-  text-length-reads.Learnt,
+  b-reads.Asked,
+  b-reads.Learnt,
   sequence-below t,
   sequence.Post,
 ) (detail-at t) detail.Post
 detail-free-text-requires t c κs = tt
 
-detail-text-length-requires : (t : ℕ) → detail-lts.Need-text-length-requires (
+detail-b-requires : (t : ℕ) → detail-lts.Need-b-requires (
   still-reads.Asked,
   still-reads.Learnt,
   free-text-reads.Asked,
   free-text-reads.Learnt,
-  text-length-reads.Asked,
-  text-length-reads.Learnt,
+  b-reads.Asked,
+  b-reads.Learnt,
   sequence-below t,
   sequence.Post,
 ) (detail-at t) detail.Post
-detail-text-length-requires t c κs = c .before .free-text .ensures .yes (c .if2 .taken) .row .inside
+detail-b-requires t c κs = tt
 
-detail-add-t9 : (t : ℕ) → detail-lts.Need-add-t9 (
+detail-add-t12 : (t : ℕ) → detail-lts.Need-add-t12 (
   still-reads.Asked,
   still-reads.Learnt,
   free-text-reads.Asked,
   free-text-reads.Learnt,
-  text-length-reads.Asked,
-  text-length-reads.Learnt,
+  b-reads.Asked,
+  b-reads.Learnt,
   sequence-below t,
   sequence.Post,
 ) (detail-at t) detail.Post
-detail-add-t9 t c = (let f = c .before .before .free-text .ensures .yes (c .before .if2 .taken) in omega (arith, f .room, f .row .b-most, c .text-length .ensures))
+detail-add-t12 t c = (let f = c .before .before .before .free-text .ensures .yes (c .before .before .if2 .taken) in omega (arith, f .room, f .row .b-most, c .b .ensures .here (f .row .inside)))
 
 detail-returns-2 : (t : ℕ) → detail-lts.Need-returns-2 (
   still-reads.Asked,
   still-reads.Learnt,
   free-text-reads.Asked,
   free-text-reads.Learnt,
-  text-length-reads.Asked,
-  text-length-reads.Learnt,
+  b-reads.Asked,
+  b-reads.Learnt,
   sequence-below t,
   sequence.Post,
 ) (detail-at t) detail.Post
-detail-returns-2 t c = detail-free (c .before .before .free-text .ensures .yes (c .before .if2 .taken)) (c .text-length .ensures)
+detail-returns-2 t c = let f = c .before .before .before .free-text .ensures .yes (c .before .before .if2 .taken) in detail-free f (c .b .ensures .here (f .row .inside))
 
 detail-sequence-requires : (t : ℕ) → detail-lts.Need-sequence-requires (
   still-reads.Asked,
   still-reads.Learnt,
   free-text-reads.Asked,
   free-text-reads.Learnt,
-  text-length-reads.Asked,
-  text-length-reads.Learnt,
+  b-reads.Asked,
+  b-reads.Learnt,
   sequence-below t,
   sequence.Post,
 ) (detail-at t) detail.Post
@@ -150,8 +150,8 @@ detail-returns-3 : (t : ℕ) → detail-lts.Need-returns-3 (
   still-reads.Learnt,
   free-text-reads.Asked,
   free-text-reads.Learnt,
-  text-length-reads.Asked,
-  text-length-reads.Learnt,
+  b-reads.Asked,
+  b-reads.Learnt,
   sequence-below t,
   sequence.Post,
 ) (detail-at t) detail.Post
@@ -293,7 +293,7 @@ objects-add-next : (t : ℕ) → objects-lts.Need-add-next (
   below-reads.Asked,
   below-reads.Learnt,
 ) (objects-at t) objects.Post objects-Inv-loop objects-μ-loop
-objects-add-next t c = omega (arith, object-inside (c .before .before .object .ensures .yes (c .before .if1 .taken)))
+objects-add-next t c = omega (arith, object-inside (c .before .before .before .object .ensures .yes (c .before .before .if1 .taken)))
 
 objects-add-next-2 : (t : ℕ) → objects-lts.Need-add-next-2 (
   object-below t,
@@ -301,7 +301,7 @@ objects-add-next-2 : (t : ℕ) → objects-lts.Need-add-next-2 (
   below-reads.Asked,
   below-reads.Learnt,
 ) (objects-at t) objects.Post objects-Inv-loop objects-μ-loop
-objects-add-next-2 t c = let o = c .before .before .object .ensures .yes (c .before .if1 .taken) in omega (arith, object-inside o, object-few o, c .below .ensures (object-inside o))
+objects-add-next-2 t c = let o = c .before .before .before .object .ensures .yes (c .before .before .if1 .taken) in omega (arith, object-inside o, object-few o, c .below .ensures .here (object-inside o))
 
 objects-returns : (t : ℕ) → objects-lts.Need-returns (
   object-below t,
@@ -309,7 +309,7 @@ objects-returns : (t : ℕ) → objects-lts.Need-returns (
   below-reads.Asked,
   below-reads.Learnt,
 ) (objects-at t) objects.Post objects-Inv-loop objects-μ-loop
-objects-returns t c = objects-last (c .before .before .before .before .before .loop .inv) (c .before .before .before .object .ensures) (c .before .before .if1 .taken) (omega (arith, c .before .below .ensures (object-inside (c .before .before .before .object .ensures .yes (c .before .before .if1 .taken))), c .if2 .taken))
+objects-returns t c = objects-last (c .before .before .before .before .before .before .loop .inv) (c .before .before .before .before .object .ensures) (c .before .before .before .if1 .taken) (omega (arith, c .before .below .ensures .here (object-inside (c .before .before .before .before .object .ensures .yes (c .before .before .before .if1 .taken))), c .if2 .taken))
 
 objects-loop-less : (t : ℕ) → objects-lts.Need-loop-less (
   object-below t,
@@ -325,7 +325,7 @@ objects-loop-again : (t : ℕ) → objects-lts.Need-loop-again (
   below-reads.Asked,
   below-reads.Learnt,
 ) (objects-at t) objects.Post objects-Inv-loop objects-μ-loop
-objects-loop-again t c = objects-more (c .before .before .before .object .result) _ (c .before .before .before .before .before .loop .inv) (c .before .before .before .object .ensures) (c .before .before .if1 .taken) (omega (arith, c .before .below .ensures (object-inside (c .before .before .before .object .ensures .yes (c .before .before .if1 .taken))))) (c .if2 .left)
+objects-loop-again t c = objects-more (c .before .before .before .before .object .result) _ (c .before .before .before .before .before .before .loop .inv) (c .before .before .before .before .object .ensures) (c .before .before .before .if1 .taken) (omega (arith, c .before .below .ensures .here (object-inside (c .before .before .before .before .object .ensures .yes (c .before .before .before .if1 .taken))))) (c .if2 .left)
 
 objects-returns-2 : (t : ℕ) → objects-lts.Need-returns-2 (
   object-below t,
@@ -391,7 +391,7 @@ sequence-add-end : (t : ℕ) → sequence-lts.Need-add-end (
   objects-below t,
   objects.Post,
 ) (sequence-at t) sequence.Post
-sequence-add-end t c = let r = c .before .before .row .ensures .yes (c .before .if2 .taken) in omega (arith, r .inside, r .below-most, c .below .ensures (r .inside))
+sequence-add-end t c = let r = c .before .before .before .row .ensures .yes (c .before .before .if2 .taken) in omega (arith, r .inside, r .below-most, c .below .ensures .here (r .inside))
 
 sequence-objects-requires : (t : ℕ) → sequence-lts.Need-objects-requires (
   row-reads.Asked,
@@ -401,7 +401,7 @@ sequence-objects-requires : (t : ℕ) → sequence-lts.Need-objects-requires (
   objects-below t,
   objects.Post,
 ) (sequence-at t) sequence.Post
-sequence-objects-requires t c κs = (omega (arith, c .before .before .before .before .before .pre .0), (let r = c .before .before .row .ensures .yes (c .before .if2 .taken) in omega (arith, r .inside, r .below-most, c .below .ensures (r .inside))))
+sequence-objects-requires t c κs = (omega (arith, c .before .before .before .before .before .before .pre .0), (let r = c .before .before .before .row .ensures .yes (c .before .before .if2 .taken) in omega (arith, r .inside, r .below-most, c .below .ensures .here (r .inside))))
 
 sequence-returns-2 : (t : ℕ) → sequence-lts.Need-returns-2 (
   row-reads.Asked,
@@ -411,7 +411,7 @@ sequence-returns-2 : (t : ℕ) → sequence-lts.Need-returns-2 (
   objects-below t,
   objects.Post,
 ) (sequence-at t) sequence.Post
-sequence-returns-2 t c = in-sequence (c .before .before .before .before .if1 .left) (c .before .before .before .row .ensures .yes (c .before .before .if2 .taken)) (omega (arith, c .before .below .ensures (c .before .before .before .row .ensures .yes (c .before .before .if2 .taken) .inside))) (c .objects .ensures)
+sequence-returns-2 t c = in-sequence (c .before .before .before .before .before .if1 .left) (c .before .before .before .before .row .ensures .yes (c .before .before .before .if2 .taken)) (omega (arith, c .before .below .ensures .here (c .before .before .before .before .row .ensures .yes (c .before .before .before .if2 .taken) .inside))) (c .objects .ensures)
 
 sequence-returns-3 : (t : ℕ) → sequence-lts.Need-returns-3 (
   row-reads.Asked,
@@ -430,8 +430,8 @@ pub +detail+object+objects+sequence-spec : {M : Type 1} → statement M
       still-reads.Learnt,
       free-text-reads.Asked,
       free-text-reads.Learnt,
-      text-length-reads.Asked,
-      text-length-reads.Learnt,
+      b-reads.Asked,
+      b-reads.Learnt,
       sequence-below t,
       sequence.Post,
     )
@@ -440,8 +440,8 @@ pub +detail+object+objects+sequence-spec : {M : Type 1} → statement M
     (detail-still-requires t)
     (detail-returns t)
     (detail-free-text-requires t)
-    (detail-text-length-requires t)
-    (detail-add-t9 t)
+    (detail-b-requires t)
+    (detail-add-t12 t)
     (detail-returns-2 t)
     (detail-sequence-requires t)
     (detail-returns-3 t))

@@ -3,6 +3,7 @@ use Prim.Native.Nat.{_-_, _*_, _≤_}
 use native.Mathlib.Omega.{arith}
 use lib.ListN.{length}
 use borrow.Author.Needs.{needs}
+use Rattle.document.specs.Words.{width}
 use Rattle.doses.specs.Doses.{Decides}
 use Rattle.doses.proofs.Decided.{yes-of, as-last}
 use Rattle.checking.proofs.Laid.{ZerosTo, one-more}
@@ -10,7 +11,7 @@ use Rattle.checking.proofs.check.unused.Statement.{statement}
 use Rattle.checking.proofs.check.unused.Tie as tie
 
 abbrev Inv-loop : tie.InvT-loop
-Inv-loop words i at₀ zero₀ at zero = (i * 6 ≤ at) × (at ≤ length words) × Decides (ZerosTo words (i * 6) at) zero
+Inv-loop words i at₀ zero₀ at zero = (i * width ≤ at) × (at ≤ length words) × Decides (ZerosTo words (i * width) at) zero
 
 abbrev μ-loop : tie.MeasureT-loop
 μ-loop words i at₀ zero₀ at zero = length words - at
@@ -37,7 +38,7 @@ loop-again : tie.Need-loop-again Inv-loop μ-loop
 loop-again c =
     let s = c .before .before .before .args in
     let l = c .before .before .loop in
-    (omega arith, omega arith, one-more (s .words .now) (s .i * 6) (l .at) (l .zero) (l .inv .0) (l .inv .2))
+    (omega arith, omega arith, one-more (s .words .now) (s .i * width) (l .at) (l .zero) (l .inv .0) (l .inv .2))
 
 returns : tie.Need-returns Inv-loop μ-loop
 returns c = as-last (λ z j h k. z j h (omega arith)) (λ z j h k. z j h (omega arith)) (c .before .loop .inv .2)

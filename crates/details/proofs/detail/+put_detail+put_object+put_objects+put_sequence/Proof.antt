@@ -29,8 +29,9 @@ use Rattle.details.proofs.detail.put_span.Reads as put-span-reads
 use Rattle.details.proofs.dosage.put_comma.Reads as put-comma-reads
 use Rattle.putting.proofs.put.Reads as put-reads
 use Rattle.putting.proofs.put_all.Reads as put-all-reads
-use Rattle.details.proofs.record.behind.Reads as behind-reads
-use Rattle.details.proofs.record.tag.Reads as tag-reads
+use Rattle.table_rows.proofs.Standing.{behind-told}
+use Rattle.table_rows.proofs.behind.Reads as behind-reads
+use Rattle.table_rows.proofs.tag.Reads as tag-reads
 use Rattle.details.proofs.detail.+put_detail+put_object+put_objects+put_sequence.{statement}
 use Rattle.details.proofs.detail.+put_detail+put_object+put_objects+put_sequence.Tie.{close}
 
@@ -116,31 +117,31 @@ put-detail-same-length : (t : ℕ) → put-detail-lts.Need-same-length (put-deta
 put-detail-same-length t c = search needs
 
 put-detail-returns : (t : ℕ) → put-detail-lts.Need-returns (put-detail-claims t) (put-detail-at t) put-detail.Post
-put-detail-returns t c u k p = c .before .before .put-daily .ensures _ _ (sym (c .before .before .before .before .before .tag .ensures (detail-inside p)) ∙ c .before .before .before .before .match .keys1) u k p
+put-detail-returns t c u k p = c .before .before .put-daily .ensures _ _ (sym (c .before .before .before .before .before .tag .ensures .here (detail-inside p)) ∙ c .before .before .before .before .match .keys1) u k p
 
 put-detail-same-length-2 : (t : ℕ) → put-detail-lts.Need-same-length-2 (put-detail-claims t) (put-detail-at t) put-detail.Post
 put-detail-same-length-2 t c = search needs
 
 put-detail-returns-2 : (t : ℕ) → put-detail-lts.Need-returns-2 (put-detail-claims t) (put-detail-at t) put-detail.Post
-put-detail-returns-2 t c u k p = c .before .before .put-free-text .ensures _ (sym (c .before .before .before .before .before .tag .ensures (detail-inside p)) ∙ c .before .before .before .before .match .keys2) u k p
+put-detail-returns-2 t c u k p = c .before .before .put-free-text .ensures _ (sym (c .before .before .before .before .before .tag .ensures .here (detail-inside p)) ∙ c .before .before .before .before .match .keys2) u k p
 
 put-detail-same-length-3 : (t : ℕ) → put-detail-lts.Need-same-length-3 (put-detail-claims t) (put-detail-at t) put-detail.Post
 put-detail-same-length-3 t c = search needs
 
 put-detail-returns-3 : (t : ℕ) → put-detail-lts.Need-returns-3 (put-detail-claims t) (put-detail-at t) put-detail.Post
-put-detail-returns-3 t c u k p = c .before .before .put-single .ensures _ _ (sym (c .before .before .before .before .before .tag .ensures (detail-inside p)) ∙ c .before .before .before .before .match .keys3) u k p
+put-detail-returns-3 t c u k p = c .before .before .put-single .ensures _ _ (sym (c .before .before .before .before .before .tag .ensures .here (detail-inside p)) ∙ c .before .before .before .before .match .keys3) u k p
 
 put-detail-same-length-4 : (t : ℕ) → put-detail-lts.Need-same-length-4 (put-detail-claims t) (put-detail-at t) put-detail.Post
 put-detail-same-length-4 t c = search needs
 
 put-detail-returns-4 : (t : ℕ) → put-detail-lts.Need-returns-4 (put-detail-claims t) (put-detail-at t) put-detail.Post
-put-detail-returns-4 t c u k p = c .before .before .put-cyclic .ensures _ _ (sym (c .before .before .before .before .before .tag .ensures (detail-inside p)) ∙ c .before .before .before .before .match .keys4) u k p
+put-detail-returns-4 t c u k p = c .before .before .put-cyclic .ensures _ _ (sym (c .before .before .before .before .before .tag .ensures .here (detail-inside p)) ∙ c .before .before .before .before .match .keys4) u k p
 
 put-detail-same-length-5 : (t : ℕ) → put-detail-lts.Need-same-length-5 (put-detail-claims t) (put-detail-at t) put-detail.Post
 put-detail-same-length-5 t c = search needs
 
 put-detail-returns-5 : (t : ℕ) → put-detail-lts.Need-returns-5 (put-detail-claims t) (put-detail-at t) put-detail.Post
-put-detail-returns-5 t c u k p = c .before .before .put-sequence .ensures (let e = c .before .before .before .before .match .rest in detail-last (c .before .before .before .before .before .tag .ensures) (e .0 .0 .0 .1) (e .0 .0 .1) (e .0 .1) (e .1) p) u k p
+put-detail-returns-5 t c u k p = c .before .before .put-sequence .ensures (let e = c .before .before .before .before .match .rest in detail-last (c .before .before .before .before .before .tag .ensures .here) (e .0 .0 .0 .1) (e .0 .0 .1) (e .0 .1) (e .1) p) u k p
 
 put-object-tag-requires : (t : ℕ) → put-object-lts.Need-tag-requires (put-object-claims t) (put-object-at t) put-object.Post
 put-object-tag-requires t c κs = search needs
@@ -152,7 +153,7 @@ put-object-same-length : (t : ℕ) → put-object-lts.Need-same-length (put-obje
 put-object-same-length t c = search needs
 
 put-object-returns : (t : ℕ) → put-object-lts.Need-returns (put-object-claims t) (put-object-at t) put-object.Post
-put-object-returns t c = c .before .before .put-pause .ensures _ _ (sym (c .before .before .before .before .before .tag .ensures (c .before .before .before .before .before .before .before .before .before .pre .1)) ∙ c .before .before .before .before .if1 .taken)
+put-object-returns t c = c .before .before .put-pause .ensures _ _ (sym (c .before .before .before .before .before .tag .ensures .here (c .before .before .before .before .before .before .before .before .before .pre .1)) ∙ c .before .before .before .before .if1 .taken)
 
 put-object-slice-aggregate-put-span : (t : ℕ) → put-object-lts.Need-slice-aggregate-put-span (put-object-claims t) (put-object-at t) put-object.Post
 put-object-slice-aggregate-put-span t c = search needs
@@ -179,7 +180,7 @@ put-object-same-length-2 : (t : ℕ) → put-object-lts.Need-same-length-2 (put-
 put-object-same-length-2 t c = search needs
 
 put-object-returns-2 : (t : ℕ) → put-object-lts.Need-returns-2 (put-object-claims t) (put-object-at t) put-object.Post
-put-object-returns-2 t c = prints-posology (λ e. c .before .before .before .before .before .before .before .before .before .before .before .before .before .before .before .before .before .before .if1 .left (c .before .before .before .before .before .before .before .before .before .before .before .before .before .before .before .before .before .before .before .tag .ensures (c .before .before .before .before .before .before .before .before .before .before .before .before .before .before .before .before .before .before .before .before .before .before .before .pre .1) ∙ e)) (c .before .before .before .before .before .before .before .before .before .before .before .before .before .before .before .put-span .ensures) (c .before .before .before .before .before .before .before .before .before .before .put-all .ensures) (c .before .before .before .before .before .before .put-detail .ensures) (c .before .before .put .ensures)
+put-object-returns-2 t c = prints-posology (λ e. c .before .before .before .before .before .before .before .before .before .before .before .before .before .before .before .before .before .before .if1 .left (c .before .before .before .before .before .before .before .before .before .before .before .before .before .before .before .before .before .before .before .tag .ensures .here (c .before .before .before .before .before .before .before .before .before .before .before .before .before .before .before .before .before .before .before .before .before .before .before .pre .1) ∙ e)) (c .before .before .before .before .before .before .before .before .before .before .before .before .before .before .before .put-span .ensures) (c .before .before .before .before .before .before .before .before .before .before .put-all .ensures) (c .before .before .before .before .before .before .put-detail .ensures) (c .before .before .put .ensures)
 
 abbrev put-objects-Inv-loop : put-objects-lts.InvT-loop
 put-objects-Inv-loop words i end left buffer out₀ from r₀ at₀ out r at = Reaches words buffer left end i r out₀ from at out
@@ -200,7 +201,7 @@ put-objects-behind-requires : (t : ℕ) → put-objects-lts.Need-behind-requires
 put-objects-behind-requires t c κs = search needs
 
 put-objects-loop-less : (t : ℕ) → put-objects-lts.Need-loop-less (put-objects-claims t) (put-objects-at t) put-objects.Post put-objects-Inv-loop put-objects-μ-loop
-put-objects-loop-less t c = omega (arith, c .behind .ensures .1 .0 (omega (arith, c .before .before .before .before .before .before .before .before .before .before .before .before .before .before .pre .1)))
+put-objects-loop-less t c = omega (arith, c .behind .ensures, c .before .before .before .before .before .before .before .before .before .before .before .before .before .before .pre .1)
 
 put-objects-loop-again : (t : ℕ) → put-objects-lts.Need-loop-again (put-objects-claims t) (put-objects-at t) put-objects.Post put-objects-Inv-loop put-objects-μ-loop
 put-objects-loop-again t c =
@@ -210,7 +211,7 @@ put-objects-loop-again t c =
     let l = comma .before .before .before in
     let a = l .before .before .before .before in
     reaches-more (l .loop .inv) (comma .put-comma .ensures) (out .out .given) (object .put-object .ensures) (c .before .before .out2 .given) (a .pre .1)
-    (comma .before .before .loop-test .taken) (c .behind .ensures .1 .0 (omega (arith, a .pre .1))) (c .behind .ensures .1 .1)
+    (comma .before .before .loop-test .taken) (omega (arith, c .behind .ensures, a .pre .1)) (behind-told (c .behind .ensures))
 
 put-objects-same-length : (t : ℕ) → put-objects-lts.Need-same-length (put-objects-claims t) (put-objects-at t) put-objects.Post put-objects-Inv-loop put-objects-μ-loop
 put-objects-same-length t c = search needs
@@ -252,7 +253,7 @@ put-sequence-same-length-2 : (t : ℕ) → put-sequence-lts.Need-same-length-2 (
 put-sequence-same-length-2 t c = search needs
 
 put-sequence-returns-2 : (t : ℕ) → put-sequence-lts.Need-returns-2 (put-sequence-claims t) (put-sequence-at t) put-sequence.Post
-put-sequence-returns-2 t c h = prints-sequence h (c .before .before .before .before .before .before .before .before .before .behind .ensures .1 .1) (c .before .before .before .before .before .before .before .before .before .before .before .before .before .put-all .ensures) (c .before .before .before .before .before .before .before .put-objects .ensures) (c .before .before .put-all2 .ensures)
+put-sequence-returns-2 t c h = prints-sequence h (behind-told (c .before .before .before .before .before .before .before .before .before .behind .ensures)) (c .before .before .before .before .before .before .before .before .before .before .before .before .before .put-all .ensures) (c .before .before .before .before .before .before .before .put-objects .ensures) (c .before .before .put-all2 .ensures)
 
 pub +put-detail+put-object+put-objects+put-sequence-spec : {M : Type 1} → statement M
 +put-detail+put-object+put-objects+put-sequence-spec =

@@ -50,7 +50,7 @@ returns c buffer left h =
     let name = timed .before .before .before .before in
     let du = name .before .before .before .before .before in
     let unit = du .before .before .before .before .before .before in
-    prints-cyclic h (unit .before .a .ensures) (du .before .b .ensures) (last .before .c .ensures) (unit .put-integer .ensures) (du .put-integer2 .ensures) (name .put-all .ensures) (timed .put-timed .ensures) (ends-cycle (last .put-per-cycle .ensures))
+    prints-cyclic h (unit .before .a .ensures .here) (du .before .b .ensures .here) (last .before .c .ensures .here) (unit .put-integer .ensures) (du .put-integer2 .ensures) (name .put-all .ensures) (timed .put-timed .ensures) (ends-cycle (last .put-per-cycle .ensures))
 
 pub put-cyclic-spec : {M : Type 1} → statement M
 put-cyclic-spec =

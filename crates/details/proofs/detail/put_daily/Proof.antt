@@ -54,7 +54,7 @@ returns c buffer left h =
     let s3 = s4 .before .before .before .before .before .before in
     let s2 = s3 .before .before .before .before .before .before in
     let s1 = s2 .before .before .before .before .before .before in
-    prints-daily h (s1 .before .a .ensures) (s2 .before .b .ensures) (s3 .before .c .ensures) (s4 .before .d .ensures) (s1 .put-decimal .ensures) (s2 .put-decimal2 .ensures) (s3 .put-decimal3 .ensures) (s4 .put-decimal4 .ensures) (c .before .before .put-all .ensures)
+    prints-daily h (s1 .before .a .ensures .here) (s2 .before .b .ensures .here) (s3 .before .c .ensures .here) (s4 .before .d .ensures .here) (s1 .put-decimal .ensures) (s2 .put-decimal2 .ensures) (s3 .put-decimal3 .ensures) (s4 .put-decimal4 .ensures) (c .before .before .put-all .ensures)
 
 pub put-daily-spec : {M : Type 1} → statement M
 put-daily-spec =

@@ -28,7 +28,7 @@ same-length : tie.Need-same-length
 same-length c = search needs
 
 returns : tie.Need-returns
-returns c left h = prints-free-text h (c .before .before .before .before .before .before .before .before .before .before .a .ensures) (c .before .before .before .before .before .before .before .before .before .b .ensures) (c .before .before .before .before .before .before .before .before .part .ensures) (c .before .before .before .before .before .before .before .before .before .before .before .before .before .put-all .ensures) (c .before .before .before .before .before .before .put-string .ensures) (c .before .before .put .ensures)
+returns c left h = prints-free-text h (c .before .before .before .before .before .before .before .before .before .before .a .ensures .here) (c .before .before .before .before .before .before .before .before .before .b .ensures .here) (c .before .before .before .before .before .before .before .before .part .ensures) (c .before .before .before .before .before .before .before .before .before .before .before .before .before .put-all .ensures) (c .before .before .before .before .before .before .put-string .ensures) (c .before .before .put .ensures)
 
 pub put-free-text-spec : {M : Type 1} → statement M
 put-free-text-spec =

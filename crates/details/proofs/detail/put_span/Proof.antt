@@ -22,7 +22,7 @@ same-length : tie.Need-same-length
 same-length c = search needs
 
 returns : tie.Need-returns
-returns c = let a = c .before .before .before .before .before .before .before .before .before .before .before .before .before .before .args in puts-span (a .words .now) (a .i) (a .name .now) (c .before .before .before .before .before .before .before .before .before .a .ensures) (c .before .before .before .b .ensures) (c .before .before .before .before .before .before .before .before .put-integer .ensures) (c .before .before .put-integer2 .ensures)
+returns c = let a = c .before .before .before .before .before .before .before .before .before .before .before .before .before .before .args in puts-span (a .words .now) (a .i) (a .name .now) (c .before .before .before .before .before .before .before .before .before .a .ensures .here) (c .before .before .before .b .ensures .here) (c .before .before .before .before .before .before .before .before .put-integer .ensures) (c .before .before .put-integer2 .ensures)
 
 pub put-span-spec : {M : Type 1} → statement M
 put-span-spec =

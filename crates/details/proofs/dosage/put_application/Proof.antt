@@ -41,7 +41,7 @@ same-length c = search needs
 
 returns : tie.Need-returns
 returns c =
-    at-time-prints (c .before .before .before .before .before .before .before .before .before .before .before .before .before .before .before .before .tag .ensures) (c .before .before .before .before .before .before .before .before .a .ensures) (c .before .before .before .before .before .before .before .before .before .before .before .before .before .before .before .if1 .taken)
+    at-time-prints (c .before .before .before .before .before .before .before .before .before .before .before .before .before .before .before .before .tag .ensures .here) (c .before .before .before .before .before .before .before .before .a .ensures .here) (c .before .before .before .before .before .before .before .before .before .before .before .before .before .before .before .if1 .taken)
     (c .before .before .before .before .before .before .before .before .before .before .before .before .before .before .before .before .before .before .before .before .before .before .before .put-all .ensures) (c .before .before .before .before .before .before .before .before .before .before .before .before .before .before .before .before .before .before .before .put-dosage .ensures) (c .before .before .before .before .before .before .before .before .before .before .before .before .put-all2 .ensures) (c .before .before .before .before .before .before .before .put-time .ensures) (c .before .before .put-all3 .ensures)
 
 slice-aggregate-put-integer : tie.Need-slice-aggregate-put-integer
@@ -61,7 +61,7 @@ same-length-2 c = search needs
 
 returns-2 : tie.Need-returns-2
 returns-2 c =
-    in-segment-prints (c .before .before .before .before .before .before .before .before .before .before .before .tag .ensures) (c .before .before .before .before .before .before .before .a2 .ensures) (c .before .before .before .before .before .before .before .before .before .before .if1 .left)
+    in-segment-prints (c .before .before .before .before .before .before .before .before .before .before .before .tag .ensures .here) (c .before .before .before .before .before .before .before .a2 .ensures .here) (c .before .before .before .before .before .before .before .before .before .before .if1 .left)
     (c .before .before .before .before .before .before .before .before .before .before .before .before .before .before .before .before .before .before .put-all .ensures) (c .before .before .before .before .before .before .before .before .before .before .before .before .before .before .put-dosage .ensures) (c .before .before .before .before .before .before .put-integer .ensures) (c .before .before .put .ensures)
 
 pub put-application-spec : {M : Type 1} → statement M

@@ -27,9 +27,9 @@ put-requires c κs = search needs
 opened : (c : tie.At-match-came) → (length (c .match .out) ≡ length (c .before .before .before .before .args .out .now)) × Opens (DosagePrints (c .before .before .before .before .args .words .now) (c .before .before .before .before .args .i)) (c .before .before .before .before .args .out .now) (c .before .before .before .before .args .from) (c .match .at) (c .match .out)
 opened c =
     elim (c .match .came) [
-      | inl w ↦ (ap length (w .5) ∙ w .2 .kept .1 .1 .0, λ t k d. puts-at (w .6) (w .5) (tagged-opens 12 (c .before .tag .ensures) (w .0 .keys1) (w .2 .ensures) t k d))
-      | inr (inl w) ↦ (ap length (w .5) ∙ w .2 .kept .1 .1 .0, λ t k d. puts-at (w .6) (w .5) (tagged-opens 13 (c .before .tag .ensures) (w .0 .keys2) (w .2 .ensures) t k d))
-      | inr (inr w) ↦ (ap length (w .5) ∙ w .2 .kept .1 .1 .0, λ t k d. puts-at (w .6) (w .5) (other-opens (c .before .tag .ensures) (w .0 .rest .0 .1) (w .0 .rest .1) (w .2 .ensures) t k d))
+      | inl w ↦ (ap length (w .5) ∙ w .2 .kept .1 .1 .0, λ t k d. puts-at (w .6) (w .5) (tagged-opens 12 (c .before .tag .ensures .here) (w .0 .keys1) (w .2 .ensures) t k d))
+      | inr (inl w) ↦ (ap length (w .5) ∙ w .2 .kept .1 .1 .0, λ t k d. puts-at (w .6) (w .5) (tagged-opens 13 (c .before .tag .ensures .here) (w .0 .keys2) (w .2 .ensures) t k d))
+      | inr (inr w) ↦ (ap length (w .5) ∙ w .2 .kept .1 .1 .0, λ t k d. puts-at (w .6) (w .5) (other-opens (c .before .tag .ensures .here) (w .0 .rest .0 .1) (w .0 .rest .1) (w .2 .ensures) t k d))
     ]
 
 same-length : tie.Need-same-length

@@ -45,7 +45,7 @@ same-length c = search needs
 returns : tie.Need-returns
 returns c tag =
     from-to-opens tag
-    (c .before .before .before .before .before .before .before .before .before .before .before .before .before .before .before .before .before .before .before .before .before .a .ensures) (c .before .before .before .before .before .before .before .before .before .before .before .before .before .before .before .b .ensures) (c .before .before .before .before .before .before .before .before .before .c .ensures) (c .before .before .before .d .ensures)
+    (c .before .before .before .before .before .before .before .before .before .before .before .before .before .before .before .before .before .before .before .before .before .a .ensures .here) (c .before .before .before .before .before .before .before .before .before .before .before .before .before .before .before .b .ensures .here) (c .before .before .before .before .before .before .before .before .before .c .ensures .here) (c .before .before .before .d .ensures .here)
     (c .before .before .before .before .before .before .before .before .before .before .before .before .before .before .before .before .before .before .before .before .put-decimal .ensures) (c .before .before .before .before .before .before .before .before .before .before .before .before .before .before .put-decimal2 .ensures) (c .before .before .before .before .before .before .before .before .put-integer .ensures) (c .before .before .put-integer2 .ensures)
 
 pub put-from-to-spec : {M : Type 1} → statement M

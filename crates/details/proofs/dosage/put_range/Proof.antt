@@ -25,7 +25,7 @@ same-length : tie.Need-same-length
 same-length c = search needs
 
 returns : tie.Need-returns
-returns c tag = range-opens tag (c .before .before .before .before .before .before .before .before .before .a .ensures) (c .before .before .before .b .ensures) (c .before .before .before .before .before .before .before .before .put-decimal .ensures) (c .before .before .put-decimal2 .ensures)
+returns c tag = range-opens tag (c .before .before .before .before .before .before .before .before .before .a .ensures .here) (c .before .before .before .b .ensures .here) (c .before .before .before .before .before .before .before .before .put-decimal .ensures) (c .before .before .put-decimal2 .ensures)
 
 pub put-range-spec : {M : Type 1} → statement M
 put-range-spec =

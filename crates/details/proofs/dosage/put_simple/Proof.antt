@@ -16,7 +16,7 @@ same-length : tie.Need-same-length
 same-length c = search needs
 
 returns : tie.Need-returns
-returns c tag = simple-opens tag (c .before .before .before .a .ensures) (c .before .before .put-decimal .ensures)
+returns c tag = simple-opens tag (c .before .before .before .a .ensures .here) (c .before .before .put-decimal .ensures)
 
 pub put-simple-spec : {M : Type 1} → statement M
 put-simple-spec =

@@ -41,7 +41,7 @@ same-length c = search needs
 
 returns : tie.Need-returns
 returns c tag =
-    interval-prints tag (c .before .before .before .before .before .before .before .before .before .before .before .before .before .a .ensures) (c .before .before .before .before .before .before .before .b .ensures)
+    interval-prints tag (c .before .before .before .before .before .before .before .before .before .before .before .before .before .a .ensures .here) (c .before .before .before .before .before .before .before .b .ensures .here)
     (c .before .before .before .before .before .before .before .before .before .before .before .before .before .before .before .before .before .before .before .before .before .before .put-all .ensures) (c .before .before .before .before .before .before .before .before .before .before .before .before .before .before .before .before .before .before .put-dosage .ensures) (c .before .before .before .before .before .before .before .before .before .before .before .before .put-integer .ensures) (c .before .before .before .before .before .before .put-integer2 .ensures) (c .before .before .put .ensures)
 
 pub put-interval-spec : {M : Type 1} → statement M

@@ -1,4 +1,5 @@
 use borrow.Author.Needs.{needs}
+use Rattle.table_rows.proofs.Standing.{behind-told}
 use mathlib.Core.List.{_∷_}
 use Rattle.putting.proofs.Laid.{puts-then}
 use Rattle.details.proofs.timed.put_listed.Statement.{statement}
@@ -27,7 +28,7 @@ same-length c = search needs
 
 returns : tie.Need-returns
 returns c ts k h p =
-    let e = c .before .before .before .before .before .before .before .before .before .behind .ensures .1 .1 h in
+    let e = behind-told (c .before .before .before .before .before .before .before .before .before .behind .ensures) h in
     puts-then (c .before .before .before .before .before .before .before .before .before .before .before .before .put-all .ensures _) (puts-then (c .before .before .before .before .before .before .before .put-applications .ensures ts (125 ∷ k) (rw e p)) (c .before .before .put-all2 .ensures k))
 
 pub put-listed-spec : {M : Type 1} → statement M

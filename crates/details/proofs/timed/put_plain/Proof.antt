@@ -25,19 +25,19 @@ same-length : tie.Need-same-length
 same-length c = search needs
 
 returns : tie.Need-returns
-returns c = times-prints (c .before .before .before .before .before .before .tag .ensures) (c .before .before .before .before .before .match .keys1) (c .before .before .put-listed .ensures)
+returns c = times-prints (c .before .before .before .before .before .before .tag .ensures .here) (c .before .before .before .before .before .match .keys1) (c .before .before .put-listed .ensures)
 
 same-length-2 : tie.Need-same-length-2
 same-length-2 c = search needs
 
 returns-2 : tie.Need-returns-2
-returns-2 c = segments-prints (c .before .before .before .before .before .before .tag .ensures) (c .before .before .before .before .before .match .keys2) (c .before .before .put-listed2 .ensures)
+returns-2 c = segments-prints (c .before .before .before .before .before .before .tag .ensures .here) (c .before .before .before .before .before .match .keys2) (c .before .before .put-listed2 .ensures)
 
 same-length-3 : tie.Need-same-length-3
 same-length-3 c = search needs
 
 returns-3 : tie.Need-returns-3
-returns-3 c = dosage-only-prints (c .before .before .before .before .before .tag .ensures) (c .before .before .before .before .match .rest .0 .1) (c .before .before .before .before .match .rest .1) (c .before .before .put-dosage-only .ensures)
+returns-3 c = dosage-only-prints (c .before .before .before .before .before .tag .ensures .here) (c .before .before .before .before .match .rest .0 .1) (c .before .before .before .before .match .rest .1) (c .before .before .put-dosage-only .ensures)
 
 pub put-plain-spec : {M : Type 1} → statement M
 put-plain-spec =

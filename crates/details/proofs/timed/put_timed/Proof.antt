@@ -28,25 +28,25 @@ same-length : tie.Need-same-length
 same-length c = search needs
 
 returns : tie.Need-returns
-returns c = week-days-prints (c .before .before .before .before .before .before .tag .ensures) (c .before .before .before .before .before .match .keys1) (c .before .before .put-under-days .ensures)
+returns c = week-days-prints (c .before .before .before .before .before .before .tag .ensures .here) (c .before .before .before .before .before .match .keys1) (c .before .before .put-under-days .ensures)
 
 same-length-2 : tie.Need-same-length-2
 same-length-2 c = search needs
 
 returns-2 : tie.Need-returns-2
-returns-2 c = days-of-month-prints (c .before .before .before .before .before .before .tag .ensures) (c .before .before .before .before .before .match .keys2) (c .before .before .put-under-days2 .ensures)
+returns-2 c = days-of-month-prints (c .before .before .before .before .before .before .tag .ensures .here) (c .before .before .before .before .before .match .keys2) (c .before .before .put-under-days2 .ensures)
 
 same-length-3 : tie.Need-same-length-3
 same-length-3 c = search needs
 
 returns-3 : tie.Need-returns-3
-returns-3 c = known-interval-prints (c .before .before .before .before .before .tag .ensures) (c .before .before .before .before .match .keys3) (c .before .before .put-interval .ensures)
+returns-3 c = known-interval-prints (c .before .before .before .before .before .tag .ensures .here) (c .before .before .before .before .match .keys3) (c .before .before .put-interval .ensures)
 
 same-length-4 : tie.Need-same-length-4
 same-length-4 c = search needs
 
 returns-4 : tie.Need-returns-4
-returns-4 c = plain-prints (c .before .before .before .before .before .tag .ensures) (c .before .before .before .before .match .rest .0 .0 .1) (c .before .before .before .before .match .rest .0 .1) (c .before .before .before .before .match .rest .1) (c .before .before .put-plain .ensures)
+returns-4 c = plain-prints (c .before .before .before .before .before .tag .ensures .here) (c .before .before .before .before .match .rest .0 .0 .1) (c .before .before .before .before .match .rest .0 .1) (c .before .before .before .before .match .rest .1) (c .before .before .put-plain .ensures)
 
 pub put-timed-spec : {M : Type 1} → statement M
 put-timed-spec =

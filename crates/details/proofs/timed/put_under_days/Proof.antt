@@ -35,7 +35,7 @@ same-length c = search needs
 
 returns : tie.Need-returns
 returns c t k h p =
-    let e = c .before .before .before .before .before .before .before .before .before .before .before .before .before .before .before .before .before .a .ensures h in
+    let e = c .before .before .before .before .before .before .before .before .before .before .before .before .before .before .before .before .before .a .ensures .here h in
     puts-then (c .before .before .before .before .before .before .before .before .before .before .before .before .before .before .before .before .before .before .before .before .put-all .ensures _)
     (puts-then (rw e at (c .before .before .before .before .before .before .before .before .before .before .before .before .before .before .before .put-days .ensures (bytes ",\"tdo\":" ++ spell t (125 ∷ k))))
     (puts-then (c .before .before .before .before .before .before .before .before .before .before .put-all2 .ensures (spell t (125 ∷ k))) (puts-then (c .before .before .before .before .before .before .put-plain .ensures t (125 ∷ k) p) (c .before .before .put .ensures k))))

@@ -1,4 +1,3 @@
-use mathlib.Core.List.{[]}
 use Rattle.putting.proofs.Laid.{puts-then}
 use borrow.Author.Needs.{needs}
 use Rattle.plain.proofs.head.put_posology.Statement.{statement}
@@ -23,14 +22,14 @@ same-length : tie.Need-same-length
 same-length c = search needs
 
 returns : tie.Need-returns
-returns c t w p =
+returns c t k w p =
     let last = c .before .before in
     let strings = last .before .before .before .before in
     let meal = strings .before .before .before .before in
     let detail = meal .before .before .before .before in
     let front = detail .before .before .before .before in
     puts-then (front .put-front .ensures _ (w .from) (w .to)) (puts-then (detail .put-po .ensures t _ p)
-    (puts-then (meal .put-meal .ensures _) (puts-then (strings .put-strings .ensures _ w) (last .put .ensures []))))
+    (puts-then (meal .put-meal .ensures _) (puts-then (strings .put-strings .ensures _ w) (last .put .ensures k))))
 
 pub put-posology-spec : {M : Type 1} → statement M
 put-posology-spec =

@@ -1,0 +1,1 @@
+// What texts mean, over the definitions of document: theorems alone (proofs/).
