@@ -16,7 +16,7 @@ use Rattle.strings.specs.Strings.{fits, buffered}
 use Rattle.document.specs.Posology as P
 use Rattle.document.specs.Table.{daySet, dosageRow, timesRows, segmentsRows, timedRows, detailRows}
 use Rattle.document.specs.Valid.{timedRecords, detailRecords, objectRecords, objectsRecords, joined, detailStrings, objectStrings, objectsStrings}
-use Rattle.document.specs.Words.{Words, words, recordWords, row, rows, allWords}
+use Rattle.document.specs.Words.{width, Words, words, recordWords, row, rows, allWords}
 use Rattle.building.specs.Built.{laidRow, laidRows, laidPiece, countOf, stringsLaid}
 use Rattle.visits.specs.Rows.{DetailRows, ObjectRows, ObjectsRows}
 use Rattle.records.specs.declared.read.Piece.{Piece}
@@ -24,13 +24,13 @@ use Rattle.records.specs.declared.read.HeadRead.{HeadRead}
 use Rattle.document.proofs.Untables.{joined-append, object-append}
 
 -- One more, behind the others.
-pub laid-snoc : (text : List ℕ) (i : ℕ) (ws buffer : List ℕ) → laidRows text (suc i) ws buffer ≡ laidRow text (drop (i * 6) ws) (laidRows text i ws buffer)
+pub laid-snoc : (text : List ℕ) (i : ℕ) (ws buffer : List ℕ) → laidRows text (suc i) ws buffer ≡ laidRow text (drop (i * width) ws) (laidRows text i ws buffer)
 unfolding laidRows
 laid-snoc text zero ws buffer = refl
 laid-snoc text (suc i) ws buffer =
-    let n : 6 + i * 6 ≡ suc i * 6 = omega arith in
-    laid-snoc text i (drop 6 ws) (laidRow text ws buffer)
-    ∙ ap (λ (v : List ℕ). laidRow text v (laidRows text i (drop 6 ws) (laidRow text ws buffer))) (drop-drop (i * 6) 6 ws ∙ ap (λ (k : ℕ). drop k ws) n)
+    let n : width + i * width ≡ suc i * width = omega arith in
+    laid-snoc text i (drop width ws) (laidRow text ws buffer)
+    ∙ ap (λ (v : List ℕ). laidRow text v (laidRows text i (drop width ws) (laidRow text ws buffer))) (drop-drop (i * width) 6 ws ∙ ap (λ (k : ℕ). drop k ws) n)
 
 -- Bytes that have room are laid.
 pub buffered-fits : (buffer : List ℕ) (to : ℕ) (bytes : List ℕ) → to + length bytes ≤ length buffer → buffered buffer to bytes ≡ sets buffer to bytes
@@ -134,28 +134,28 @@ row-length text ws buffer false = refl
 pub laid-length : (text : List ℕ) (n : ℕ) (ws buffer : List ℕ) → length (laidRows text n ws buffer) ≡ length buffer
 unfolding laidRows
 laid-length text zero ws buffer = refl
-laid-length text (suc n) ws buffer = laid-length text n (drop 6 ws) (laidRow text ws buffer) ∙ row-length text ws buffer (eqb (getD ws 0 0) 2)
+laid-length text (suc n) ws buffer = laid-length text n (drop width ws) (laidRow text ws buffer) ∙ row-length text ws buffer (eqb (getD ws 0 0) 2)
 
 -- The code's turn at row i: its string laid, or nothing done.
 module _ (text ws before : List ℕ) (i : ℕ) (buffer after : List ℕ) (so-far : buffer ≡ laidRows text i ws before) where
-  turn : laidRows text (i + 1) ws before ≡ laidRow text (drop (i * 6) ws) buffer
-  turn = ap (λ (n : ℕ). laidRows text n ws before) (add-one i) ∙ laid-snoc text i ws before ∙ ap (λ (v : List ℕ). laidRow text (drop (i * 6) ws) v) (sym so-far)
+  turn : laidRows text (i + 1) ws before ≡ laidRow text (drop (i * width) ws) buffer
+  turn = ap (λ (n : ℕ). laidRows text n ws before) (add-one i) ∙ laid-snoc text i ws before ∙ ap (λ (v : List ℕ). laidRow text (drop (i * width) ws) v) (sym so-far)
 
-  tag : getD (drop (i * 6) ws) 0 0 ≡ getD ws (i * 6) 0
-  tag = getD-drop (i * 6) ws 0 0 ∙ ap (λ (k : ℕ). getD ws k 0) (add-zero (i * 6))
+  tag : getD (drop (i * width) ws) 0 0 ≡ getD ws (i * width) 0
+  tag = getD-drop (i * width) ws 0 0 ∙ ap (λ (k : ℕ). getD ws k 0) (add-zero (i * width))
 
-  pub turn-lays : getD ws (i * 6) 0 ≡ 2 → after ≡ buffered buffer (getD ws (i * 6 + 2) 0) (decoded (drop (getD ws (i * 6 + 4) 0) text)) → after ≡ laidRows text (i + 1) ws before
+  pub turn-lays : getD ws (i * width) 0 ≡ 2 → after ≡ buffered buffer (getD ws (i * width + 2) 0) (decoded (drop (getD ws (i * width + 4) 0) text)) → after ≡ laidRows text (i + 1) ws before
   turn-lays e f =
       f
-      ∙ sym (ap (λ (b : Bool). cond b (buffered buffer (getD (drop (i * 6) ws) 2 0) (decoded (drop (getD (drop (i * 6) ws) 4 0) text))) buffer) (eq-eqb (getD (drop (i * 6) ws) 0 0) 2 (tag ∙ e))
-      ∙ ap (λ (k : ℕ). buffered buffer k (decoded (drop (getD (drop (i * 6) ws) 4 0) text))) (getD-drop (i * 6) ws 2 0)
-      ∙ ap (λ (k : ℕ). buffered buffer (getD ws (i * 6 + 2) 0) (decoded (drop k text))) (getD-drop (i * 6) ws 4 0))
+      ∙ sym (ap (λ (b : Bool). cond b (buffered buffer (getD (drop (i * width) ws) 2 0) (decoded (drop (getD (drop (i * width) ws) 4 0) text))) buffer) (eq-eqb (getD (drop (i * width) ws) 0 0) 2 (tag ∙ e))
+      ∙ ap (λ (k : ℕ). buffered buffer k (decoded (drop (getD (drop (i * width) ws) 4 0) text))) (getD-drop (i * width) ws 2 0)
+      ∙ ap (λ (k : ℕ). buffered buffer (getD ws (i * width + 2) 0) (decoded (drop k text))) (getD-drop (i * width) ws 4 0))
       ∙ sym turn
 
-  pub turn-passes : (getD ws (i * 6) 0 ≡ 2 → ⊥) → after ≡ buffer → after ≡ laidRows text (i + 1) ws before
+  pub turn-passes : (getD ws (i * width) 0 ≡ 2 → ⊥) → after ≡ buffer → after ≡ laidRows text (i + 1) ws before
   turn-passes e f =
       f
-      ∙ sym (ap (λ (b : Bool). cond b (buffered buffer (getD (drop (i * 6) ws) 2 0) (decoded (drop (getD (drop (i * 6) ws) 4 0) text))) buffer) (ne-eqb (getD (drop (i * 6) ws) 0 0) 2 (λ g. e (sym tag ∙ g))))
+      ∙ sym (ap (λ (b : Bool). cond b (buffered buffer (getD (drop (i * width) ws) 2 0) (decoded (drop (getD (drop (i * width) ws) 4 0) text))) buffer) (ne-eqb (getD (drop (i * width) ws) 0 0) 2 (λ g. e (sym tag ∙ g))))
       ∙ sym turn
 
 -- A piece of the head laid.

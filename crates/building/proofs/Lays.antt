@@ -3,7 +3,7 @@ use Prim.Native.Nat.{ℕ, _+_, _≤_}
 use mathlib.Core.Path.{_≡_, refl, sym, ap, _∙_}
 use mathlib.Core.List.{List, [], _++_, append-nil}
 use mathlib.Core.Option.{Option, none, some}
-use native.Mathlib.Nat.{add-zero, zero-add}
+use native.Mathlib.Nat.{zero-add}
 use native.Mathlib.Omega.{arith}
 use lib.ListN.{length, drop, length-append}
 use lib.Seq.{sets, length-sets, sets-eq}
@@ -12,6 +12,7 @@ use Rattle.document.specs.Answer.{laid}
 use Rattle.document.specs.Posology.{Posology}
 use Rattle.document.specs.Table.{lengthOf}
 use Rattle.document.specs.Valid.{detailRecords, detailStrings, given, joined, strings}
+use Rattle.document.specs.Told.{noneUsed}
 use Rattle.strings.specs.Strings.{buffered}
 use Rattle.building.specs.Built.{laidRows, laidPiece, stringsLaid}
 use Rattle.visits.specs.Holding.{PieceOf, Holds}
@@ -38,13 +39,14 @@ piece-next text start (some cs) p acc buffer e s h =
     ∙ buffered-fits (sets buffer 0 acc) (0 + length acc) (joined cs []) fits
     ∙ sym (sets-append acc (joined cs []) buffer 0)
 
-module _ (text : List ℕ) (p : Posology) (h : HeadRead) (words : List ℕ) (holds : Holds text p h words) (buffer : List ℕ) where
+module _ (text : List ℕ) (p : Posology) (h : HeadRead) (words : List ℕ) (holds : Holds noneUsed text p h words) (buffer : List ℕ) where
   rows-laid : length (detailStrings (p .po) []) ≤ length buffer → laidRows text (h .used .records) words buffer ≡ sets buffer 0 (detailStrings (p .po) [])
   unfolding laidRows
   rows-laid fits =
       let rest = drop (length (holds .chunk)) words in
       let here : 0 + length (detailStrings (p .po) []) ≤ length buffer = omega arith in
-      ap (λ (n : ℕ). laidRows text n words buffer) (holds .count ∙ sym (add-zero (detailRecords (p .po))))
+      let count : h .used .records ≡ detailRecords (p .po) + 0 = omega (arith, holds .count) in
+      ap (λ (n : ℕ). laidRows text n words buffer) count
       ∙ ap (λ (ws : List ℕ). laidRows text (detailRecords (p .po) + 0) ws buffer) (words-split text 0 p h words holds)
       ∙ detail-laid (p .po) text 0 (holds .chunk) (holds .rows) 0 rest buffer here
 
@@ -63,7 +65,7 @@ module _ (text : List ℕ) (p : Posology) (h : HeadRead) (words : List ℕ) (hol
       let l₃ : length (D ++ U ++ I ++ R) ≡ length (D ++ U ++ I) + lengthOf (p .roa) = length-append (D ++ U ++ I) R ∙ ap (λ (n : ℕ). length (D ++ U ++ I) + n) (given-length (p .roa)) in
       let l₄ : length (D ++ U ++ I ++ R ++ M) ≡ length (D ++ U ++ I ++ R) + length M = length-append (D ++ U ++ I ++ R) M in
       ap (λ (b : List ℕ). laidPiece text (h .moa) (laidPiece text (h .roa) (laidPiece text (h .instructions) (laidPiece text (h .unit) b)))) (ap (λ (n : ℕ). laidRows text n words buffer) (all-taken text 0 p h words holds) ∙ rows-laid (omega arith))
-      ∙ ap (λ (b : List ℕ). laidPiece text (h .moa) (laidPiece text (h .roa) (laidPiece text (h .instructions) b))) (piece-next text _ (p .unit) (h .unit) D buffer (holds .unit) refl (omega arith))
+      ∙ ap (λ (b : List ℕ). laidPiece text (h .moa) (laidPiece text (h .roa) (laidPiece text (h .instructions) b))) (piece-next text _ (p .unit) (h .unit) D buffer (holds .unit) (omega arith) (omega arith))
       ∙ ap (λ (b : List ℕ). laidPiece text (h .moa) (laidPiece text (h .roa) b)) (piece-next text _ (p .applInstr) (h .instructions) (D ++ U) buffer (holds .instructions) (omega arith) (omega arith))
       ∙ ap (λ (b : List ℕ). laidPiece text (h .moa) b) (piece-next text _ (p .roa) (h .roa) (D ++ U ++ I) buffer (holds .roa) (omega arith) (omega arith))
       ∙ piece-next text _ (p .moa) (h .moa) (D ++ U ++ I ++ R) buffer (holds .moa) (omega arith) (omega arith)

@@ -10,13 +10,14 @@ use Rattle.document.specs.declared.table.Record.{Record}
 use Rattle.document.specs.declared.table.Head.{Head}
 use Rattle.document.specs.declared.table.Text.{Text}
 use Rattle.document.specs.declared.table.Table.{Table}
+use Rattle.document.specs.Words.{width}
 use Rattle.kinds.specs.Kinds.{recordIn, groups, atMost, recordsIn}
 use Rattle.records.specs.declared.read.Piece.{Piece}
 use Rattle.records.specs.declared.read.HeadRead.{HeadRead}
 
 -- The records of the words, six each.
 abbrev pub recordsOf : ℕ → List ℕ → List Record
-recordsOf n ws = groups 6 recordIn n ws
+recordsOf n ws = groups width recordIn n ws
 
 -- The buffer after the record of the six words in front: a FreeText's string is laid from its start on.
 abbrev pub laidRow : List ℕ → List ℕ → List ℕ → List ℕ
@@ -24,7 +25,7 @@ laidRow text ws buffer = cond (eqb (getD ws 0 0) 2) (buffered buffer (getD ws 2 
 
 unfoldable pub laidRows : List ℕ → ℕ → List ℕ → List ℕ → List ℕ
 laidRows text zero ws buffer = buffer
-laidRows text (suc n) ws buffer = laidRows text n (drop 6 ws) (laidRow text ws buffer)
+laidRows text (suc n) ws buffer = laidRows text n (drop width ws) (laidRow text ws buffer)
 
 abbrev pub laidPiece : List ℕ → Piece → List ℕ → List ℕ
 laidPiece text p buffer = cond (eqb (p .len) 0) buffer (buffered buffer (p .start) (decoded (drop (p .quote) text)))

@@ -5,6 +5,7 @@ use document::table::RECORDS;
 use document::table::Record;
 use document::table::Table;
 use document::table::Text;
+use document::table::WIDTH;
 use document::table::WORDS;
 use records::read::HeadRead;
 use records::read::Piece;
@@ -25,7 +26,7 @@ fn records_of(words: &[u64; WORDS], count: usize) -> [Record; RECORDS]
     }; RECORDS];
     let mut i = 0;
     while i < count {
-        records[i] = kinds::record_at(words, i * 6);
+        records[i] = kinds::record_at(words, i * WIDTH);
         i += 1;
     }
     records
@@ -76,7 +77,7 @@ fn lay_records(text: &[u8], words: &[u64; WORDS], count: usize, strings: &mut [u
 {
     let mut i = 0;
     while i < count {
-        let at = i * 6;
+        let at = i * WIDTH;
         if words[at] == 2 {
             strings::lay(
                 text,

@@ -13,6 +13,7 @@ use Rattle.spelling.proofs.Spells.{one-tree, sound}
 use Rattle.document.specs.Posology.{Posology}
 use Rattle.document.specs.Same.{unplaced}
 use Rattle.document.specs.Answer.{textAtMost, taken, read, takenTo, readNext}
+use Rattle.document.specs.declared.terms.Terms.{Terms}
 use Rattle.meaning.proofs.Texts.{read-taken}
 use Rattle.meaning.proofs.Spelled.{reordered-taken}
 use Rattle.meaning.proofs.Moves.{moved}
@@ -36,30 +37,30 @@ pub bare-one : {t t′ : Tree} {s s′ : List ℕ} → Text t s → Text t′ s�
 bare-one {s′ = s′} x y e = let h = respaced-text x s′ e (text-whole y) in sym (h .2) ∙ ap unplaced (one-tree (h .1) y)
 
 -- And they are read alike.
-pub bare-same : (purpose room : ℕ) {s s′ : List ℕ} {t t′ : Tree} (p : Posology) → Text t s → Text t′ s′ → bare s ≡ bare s′ → length s′ ≤ textAtMost
-    → read purpose room s ≡ taken p → read purpose room s′ ≡ taken p
-bare-same purpose room {t = t} {t′ = t′} p x y e h r = reordered-taken purpose room p x y (moved t t′ (bare-one x y e)) h r
+pub bare-same : (terms : Terms) {s s′ : List ℕ} {t t′ : Tree} (p : Posology) → Text t s → Text t′ s′ → bare s ≡ bare s′ → length s′ ≤ textAtMost
+    → read terms s ≡ taken p → read terms s′ ≡ taken p
+bare-same terms {t = t} {t′ = t′} p x y e h r = reordered-taken terms p x y (moved t t′ (bare-one x y e)) h r
 
 -- A text that is taken is taken as the same with blanks elsewhere between its tokens: none between two bytes of a number or of a word.
-pub respaced-same : (purpose room : ℕ) (s s′ : List ℕ) (p : Posology) → bare s ≡ bare s′ → whole s′ ≡ true → length s′ ≤ textAtMost → read purpose room s ≡ taken p
-    → read purpose room s′ ≡ taken p
-respaced-same purpose room s s′ p e w h r =
-    let x = sound (read-taken purpose room s p r .walked) .0 in
-    bare-same purpose room p x (respaced-text x s′ e w .1) e h r
+pub respaced-same : (terms : Terms) (s s′ : List ℕ) (p : Posology) → bare s ≡ bare s′ → whole s′ ≡ true → length s′ ≤ textAtMost → read terms s ≡ taken p
+    → read terms s′ ≡ taken p
+respaced-same terms s s′ p e w h r =
+    let x = sound (read-taken terms s p r .walked) .0 in
+    bare-same terms p x (respaced-text x s′ e w .1) e h r
 
 -- And with one blank put between two tokens.
 pub blank-spells : {t : Tree} (u v : List ℕ) (b : ℕ) → isBlank b ≡ true → between u v ≡ true → Text t (u ++ v) → (t′ : Tree) × Text t′ (u ++ (b ∷ v)) × (unplaced t′ ≡ unplaced t)
 blank-spells u v b is m x = let h = blank-put b v is u m (text-whole x) in respaced-text x (u ++ (b ∷ v)) (h .0) (h .1)
 
-pub blank-same : (purpose room : ℕ) (u v : List ℕ) (b : ℕ) (p : Posology) → isBlank b ≡ true → between u v ≡ true → length (u ++ (b ∷ v)) ≤ textAtMost
-    → read purpose room (u ++ v) ≡ taken p → read purpose room (u ++ (b ∷ v)) ≡ taken p
-blank-same purpose room u v b p is m h r =
-    let x = sound (read-taken purpose room (u ++ v) p r .walked) .0 in
+pub blank-same : (terms : Terms) (u v : List ℕ) (b : ℕ) (p : Posology) → isBlank b ≡ true → between u v ≡ true → length (u ++ (b ∷ v)) ≤ textAtMost
+    → read terms (u ++ v) ≡ taken p → read terms (u ++ (b ∷ v)) ≡ taken p
+blank-same terms u v b p is m h r =
+    let x = sound (read-taken terms (u ++ v) p r .walked) .0 in
     let k = blank-put b v is u m (text-whole x) in
-    respaced-same purpose room (u ++ v) (u ++ (b ∷ v)) p (k .0) (k .1) h r
+    respaced-same terms (u ++ v) (u ++ (b ∷ v)) p (k .0) (k .1) h r
 
 -- The first text of a run, with blanks elsewhere between the tokens of the run: it is taken as the same, if it ends in the first 32,768 bytes,
 -- and what is behind it is again the same but for blanks between tokens.
-pub respaced-same-in-run : (purpose room : ℕ) (run run′ : List ℕ) (p : Posology) (e : ℕ) → bare run ≡ bare run′ → whole run′ ≡ true → readNext purpose room run ≡ takenTo p e
-    → (e′ : ℕ) × (e′ ≤ textAtMost → readNext purpose room run′ ≡ takenTo p e′) × (bare (drop e run) ≡ bare (drop e′ run′)) × (whole (drop e′ run′) ≡ true)
-respaced-same-in-run purpose room run run′ p e s w h = let k = respaced-next purpose room run run′ p e s w h in (k .0, k .1 .taken, k .1 .same, k .1 .unparted)
+pub respaced-same-in-run : (terms : Terms) (run run′ : List ℕ) (p : Posology) (e : ℕ) → bare run ≡ bare run′ → whole run′ ≡ true → readNext terms run ≡ takenTo p e
+    → (e′ : ℕ) × (e′ ≤ textAtMost → readNext terms run′ ≡ takenTo p e′) × (bare (drop e run) ≡ bare (drop e′ run′)) × (whole (drop e′ run′) ≡ true)
+respaced-same-in-run terms run run′ p e s w h = let k = respaced-next terms run run′ p e s w h in (k .0, k .1 .taken, k .1 .same, k .1 .unparted)

@@ -11,7 +11,7 @@ use Rattle.document.specs.Spells.{Spells}
 use Rattle.document.specs.Table.{tableOf}
 use Rattle.document.specs.Plain.{plain}
 use Rattle.document.specs.Answer.{taken, read, textAtMost, Reads}
-use Rattle.document.specs.Write.{write, fitting, readable, greatestRoom, Writes}
+use Rattle.document.specs.Write.{write, fitting, readable, greatestRoom, inGreatestRoom, Writes}
 use Rattle.meaning.proofs.PlainTexts.{plain-reads}
 use Rattle.document.proofs.Tables.{one-of-table, own-written}
 use Rattle.meaning.proofs.ReadTables.{readable-read, read-readable}
@@ -21,12 +21,13 @@ use Rattle.document.specs.declared.table.Reading.{Reading}
 use Rattle.document.specs.declared.table.Answer.the-variants as A
 use Rattle.document.specs.declared.table.Writing.{Writing}
 use Rattle.document.specs.declared.table.Writing.the-variants.{Written}
+use Rattle.document.specs.declared.terms.Terms.{Terms}
 use Rattle.demands.specs.Tables.{WrittenAndRead}
 use Rattle.demands.proofs.TablesBack.{written-and-read, promised-back}
 
 -- A text of at most 32,768 bytes is accepted exactly when it spells a valid posology whose strings fit the text room, and then as that posology.
-pub accepted-iff-spells : (purpose room : ℕ) (text : List ℕ) (p : Posology) → (read purpose room text ≡ taken p) ↔ ((length text ≤ textAtMost) × Valid purpose p × Spells text p × Fits room p)
-accepted-iff-spells purpose room text p = (accepted-spells purpose room text p, λ h. spelled-accepted purpose room text p (h .0) (h .1) (h .2) (h .3))
+pub accepted-iff-spells : (terms : Terms) (text : List ℕ) (p : Posology) → (read terms text ≡ taken p) ↔ ((length text ≤ textAtMost) × Valid (terms .purpose) p × Spells text p × Fits (terms .room) p)
+accepted-iff-spells terms text p = (accepted-spells terms text p, λ h. spelled-accepted terms text p (h .0) (h .1) (h .2) (h .3))
 
 -- A text spells at most one posology.
 pub spells-one : (text : List ℕ) (p q : Posology) → Spells text p → Spells text q → p ≡ q
@@ -37,15 +38,15 @@ pub table-is-one : (purpose : ℕ) (p q : Posology) → Valid purpose p → Vali
 table-is-one purpose p q v w e f = one-of-table purpose p q v w e f
 
 -- What is written of a posology reads back to it, in any room that holds its strings.
-pub written-reads-back : (purpose room : ℕ) (p : Posology) → Valid purpose p → Fits greatestRoom p → Fits room p → read purpose room (plain p) ≡ taken p
-written-reads-back purpose room p v f g = plain-reads purpose room p v f g
+pub written-reads-back : (terms : Terms) (p : Posology) → Valid (terms .purpose) p → Fits greatestRoom p → Fits (terms .room) p → read terms (plain p) ≡ taken p
+written-reads-back terms p v f g = plain-reads terms p v f g
 
 -- Its plain text is the one thing that the writer makes of its table and strings.
 pub plain-is-one : (purpose room : ℕ) (p : Posology) (behind : List ℕ) → Valid purpose p → Fits greatestRoom p → write purpose (tableOf p) (strings p ++ behind) room ≡ fitting room (plain p)
 plain-is-one purpose room p behind v f = own-written purpose room p behind v f
 
 -- 18: exactly the tables and text bytes that no text reads to, for this use.
-pub table-valid-iff-readable : (purpose : ℕ) (t : Table) (bytes : List ℕ) → isUse purpose ≡ true → (readable purpose t bytes ≡ true) ↔ ((text : List ℕ) × (p : Posology) × (read purpose greatestRoom text ≡ taken p) × (tableOf p ≡ t) × (take (length (strings p)) bytes ≡ strings p))
+pub table-valid-iff-readable : (purpose : ℕ) (t : Table) (bytes : List ℕ) → isUse purpose ≡ true → (readable purpose t bytes ≡ true) ↔ ((text : List ℕ) × (p : Posology) × (read (inGreatestRoom purpose) text ≡ taken p) × (tableOf p ≡ t) × (take (length (strings p)) bytes ≡ strings p))
 table-valid-iff-readable purpose t bytes u = (readable-read purpose t bytes u, read-readable purpose t bytes)
 
 -- "Every valid table is written as its one plain text if the buffer holds it, and reading that returns the table": by 18, "any other table is valid".

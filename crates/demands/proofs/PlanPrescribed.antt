@@ -41,7 +41,8 @@ valid-for-both purpose p v = go (eqb purpose 1) refl (v .0)
     go false one h = subst (λ (n : ℕ). valid n p ≡ true) (eqb-true purpose 3 h) (v .1)
 
 -- "a posology accepted as a medication plan is accepted as a prescription with the same table"
-pub plan-is-prescription : (room : ℕ) (text : List ℕ) (p : Posology) → read 1 room text ≡ taken p → read 3 room text ≡ taken p
+pub plan-is-prescription : (room : ℕ) (text : List ℕ) (p : Posology)
+    → read (record { purpose = 1; room = room }) text ≡ taken p → read (record { purpose = 3; room = room }) text ≡ taken p
 plan-is-prescription room text p e =
-    let a = accepted-spells 1 room text p e in
-    spelled-accepted 3 room text p (a .0) (refl, plan-valid p (a .1 .1)) (a .2) (a .3)
+    let a = accepted-spells _ text p e in
+    spelled-accepted _ text p (a .0) (refl, plan-valid p (a .1 .1)) (a .2) (a .3)

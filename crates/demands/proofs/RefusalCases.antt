@@ -20,6 +20,7 @@ use Rattle.document.specs.Posology.{Posology}
 use Rattle.document.specs.Visit.{Outcome, done, refuse, visit}
 use Rattle.document.specs.Valid.{isUse}
 use Rattle.document.specs.Answer.{textAtMost, Read, taken, refused, visited, readWalked, afterWalk, read, blankTo, refusedAt, upTo, nextWalked, nextBegun, readNext}
+use Rattle.document.specs.declared.terms.Terms.{Terms}
 use Rattle.demands.specs.Refusals.{Met}
 use Rattle.demands.proofs.VisitNumbers.{visit-refuses}
 
@@ -36,21 +37,21 @@ of-outcome : (start : List ℕ) (o : Outcome Posology) {n place : ℕ} → ((m :
 of-outcome start (done p l) h e = never (cc e)
 of-outcome start (refuse m p) {n} h e = let q : m ≡ n = cc e in rw q at (h m p refl)
 
-of-walked : (purpose room : ℕ) (text : List ℕ) {n place : ℕ} → readWalked purpose room text ≡ refused n place → (4 ≤ n) × (n ≤ 16)
-of-walked purpose room text e = of-outcome text (visit purpose room (treeOf text)) (λ m p. visit-refuses purpose room (treeOf text)) e
+of-walked : (terms : Terms) (text : List ℕ) {n place : ℕ} → readWalked terms text ≡ refused n place → (4 ≤ n) × (n ≤ 16)
+of-walked terms text e = of-outcome text (visit terms (treeOf text)) (λ m p. visit-refuses terms (treeOf text)) e
 
-pub refused-by : (purpose room : ℕ) (text : List ℕ) {n place : ℕ} → read purpose room text ≡ refused n place → Refusal purpose text n place
+pub refused-by : (terms : Terms) (text : List ℕ) {n place : ℕ} → read terms text ≡ refused n place → Refusal (terms .purpose) text n place
 unfolding read
-refused-by purpose room text {n} {place} h = go (isUse purpose) (leb (length text) textAtMost) refl refl h
+refused-by terms text {n} {place} h = go (isUse (terms .purpose)) (leb (length text) textAtMost) refl refl h
   where
-    walked : (w : Walked) → oneObject text ≡ w → isUse purpose ≡ true → length text ≤ textAtMost → afterWalk purpose room text w ≡ refused n place → Refusal purpose text n place
-    walked (end r) e u s g = let v = of-walked purpose room text g in of-visit (v .0) (v .1)
+    walked : (w : Walked) → oneObject text ≡ w → isUse (terms .purpose) ≡ true → length text ≤ textAtMost → afterWalk terms text w ≡ refused n place → Refusal (terms .purpose) text n place
+    walked (end r) e u s g = let v = of-walked terms text g in of-visit (v .0) (v .1)
     walked (refused2 p) e u s g = of-spelling u s p e (cc g) (cc g)
     walked (refused3 p) e u s g = of-depth u s p e (cc g) (cc g)
 
-    go : (a b : Bool) → isUse purpose ≡ a → leb (length text) textAtMost ≡ b
-        → choose a (λ _. choose b (λ _. afterWalk purpose room text (oneObject text)) λ _. refused 1 textAtMost) (λ _. refused 17 0) ≡ refused n place
-        → Refusal purpose text n place
+    go : (a b : Bool) → isUse (terms .purpose) ≡ a → leb (length text) textAtMost ≡ b
+        → choose a (λ _. choose b (λ _. afterWalk terms text (oneObject text)) λ _. refused 1 textAtMost) (λ _. refused 17 0) ≡ refused n place
+        → Refusal (terms .purpose) text n place
     go true true e f g = walked (oneObject text) refl e (leb-true (length text) textAtMost f) g
     go true false e f g = of-length e (leb-false (length text) textAtMost f) (cc g) (cc g)
     go false b e f g = of-use e (cc g) (cc g)
@@ -84,16 +85,16 @@ met true c run at m n place e f k l g = k (inl (leb-true (length run) textAtMost
 met false true run at m n place e f k l g = k (inr (ltb-true at textAtMost f)) (cc g) (cc g)
 met false false run at m n place e f k l g = l (leb-false (length run) textAtMost e) (ltb-false at textAtMost f) (cc g) (cc g)
 
-pub next-refused-by : (purpose room : ℕ) (run : List ℕ) {n place : ℕ} → readNext purpose room run ≡ refusedAt n place → NextRefusal purpose run n place
+pub next-refused-by : (terms : Terms) (run : List ℕ) {n place : ℕ} → readNext terms run ≡ refusedAt n place → NextRefusal (terms .purpose) run n place
 unfolding readNext
-next-refused-by purpose room run {n} {place} h = go (isUse purpose) refl h
+next-refused-by terms run {n} {place} h = go (isUse (terms .purpose)) refl h
   where
-    walked : (w : Walked) → firstObject run ≡ w → isUse purpose ≡ true → (Blanks run [] → ⊥) → nextWalked purpose room run w ≡ refusedAt n place → NextRefusal purpose run n place
+    walked : (w : Walked) → firstObject run ≡ w → isUse (terms .purpose) ≡ true → (Blanks run [] → ⊥) → nextWalked terms run w ≡ refusedAt n place → NextRefusal (terms .purpose) run n place
     walked (end r) e u s g = ends (leb (placeIn run r) textAtMost) refl g
       where
         ends : (b : Bool) → leb (placeIn run r) textAtMost ≡ b
-            → choose b (λ _. upTo (placeIn run r) (readWalked purpose room run)) (λ _. refusedAt 1 textAtMost) ≡ refusedAt n place → NextRefusal purpose run n place
-        ends true f i = let v = of-walked purpose room run (up-refused (placeIn run r) (readWalked purpose room run) i) in of-visit (v .0) (v .1)
+            → choose b (λ _. upTo (placeIn run r) (readWalked terms run)) (λ _. refusedAt 1 textAtMost) ≡ refusedAt n place → NextRefusal (terms .purpose) run n place
+        ends true f i = let v = of-walked terms run (up-refused (placeIn run r) (readWalked terms run) i) in of-visit (v .0) (v .1)
         ends false f i = of-length u s (ended-behind r e (leb-false (placeIn run r) textAtMost f)) (cc i) (cc i)
     walked (refused2 p) e u s g =
         met (leb (length run) textAtMost) (ltb (placeIn run p) textAtMost) run (placeIn run p) 2 n place refl refl
@@ -104,17 +105,17 @@ next-refused-by purpose room run {n} {place} h = go (isUse purpose) refl h
         (λ m i j. of-depth u p e (rw j at m) (sym i) j)
         (λ l m i j. of-length u s (refused-behind p (inr e) l m) (sym i) (sym j)) g
 
-    begun : (m : List ℕ) → blanked run ≡ m → isUse purpose ≡ true → nextBegun purpose room run m ≡ refusedAt n place → NextRefusal purpose run n place
+    begun : (m : List ℕ) → blanked run ≡ m → isUse (terms .purpose) ≡ true → nextBegun terms run m ≡ refusedAt n place → NextRefusal (terms .purpose) run n place
     begun [] e u g = never (cc g)
     begun (b ∷ s) e u g = walked (firstObject run) refl u (some-byte run b s e) g
 
-    go : (b : Bool) → isUse purpose ≡ b → choose b (λ _. nextBegun purpose room run (blanked run)) (λ _. refusedAt 17 0) ≡ refusedAt n place → NextRefusal purpose run n place
+    go : (b : Bool) → isUse (terms .purpose) ≡ b → choose b (λ _. nextBegun terms run (blanked run)) (λ _. refusedAt 17 0) ≡ refusedAt n place → NextRefusal (terms .purpose) run n place
     go true u g = begun (blanked run) refl u g
     go false u g = of-use u (cc g) (cc g)
 
-pub blank-by : (purpose room : ℕ) (run : List ℕ) {n : ℕ} → readNext purpose room run ≡ blankTo n → (isUse purpose ≡ true) × Blanks run [] × (n ≡ length run)
+pub blank-by : (terms : Terms) (run : List ℕ) {n : ℕ} → readNext terms run ≡ blankTo n → (isUse (terms .purpose) ≡ true) × Blanks run [] × (n ≡ length run)
 unfolding readNext
-blank-by purpose room run {n} h = go (isUse purpose) refl h
+blank-by terms run {n} h = go (isUse (terms .purpose)) refl h
   where
     not-refused : (b : Bool) (m at : ℕ) → cond b (refusedAt m at) (refusedAt 1 textAtMost) ≡ blankTo n → ⊥
     not-refused true m at g = never (cc g)
@@ -124,21 +125,21 @@ blank-by purpose room run {n} h = go (isUse purpose) refl h
     up e (taken p) g = never (cc g)
     up e (refused m at) g = never (cc g)
 
-    ends : (b : Bool) (e : ℕ) → choose b (λ _. upTo e (readWalked purpose room run)) (λ _. refusedAt 1 textAtMost) ≡ blankTo n → ⊥
-    ends true e g = up e (readWalked purpose room run) g
+    ends : (b : Bool) (e : ℕ) → choose b (λ _. upTo e (readWalked terms run)) (λ _. refusedAt 1 textAtMost) ≡ blankTo n → ⊥
+    ends true e g = up e (readWalked terms run) g
     ends false e g = never (cc g)
 
-    walked : (w : Walked) → nextWalked purpose room run w ≡ blankTo n → ⊥
+    walked : (w : Walked) → nextWalked terms run w ≡ blankTo n → ⊥
     walked (end r) g = ends (leb (placeIn run r) textAtMost) (placeIn run r) g
     walked (refused2 p) g = not-refused (leb (length run) textAtMost || ltb (placeIn run p) textAtMost) 2 (placeIn run p) g
     walked (refused3 p) g = not-refused (leb (length run) textAtMost || ltb (placeIn run p) textAtMost) 3 (placeIn run p) g
 
-    begun : (m : List ℕ) → blanked run ≡ m → nextBegun purpose room run m ≡ blankTo n → Blanks run [] × (n ≡ length run)
+    begun : (m : List ℕ) → blanked run ≡ m → nextBegun terms run m ≡ blankTo n → Blanks run [] × (n ≡ length run)
     begun [] e g = (rw e at (blanks-blanked run), cc g)
     begun (b ∷ s) e g = absurd (walked (firstObject run) g)
 
-    go : (b : Bool) → isUse purpose ≡ b → choose b (λ _. nextBegun purpose room run (blanked run)) (λ _. refusedAt 17 0) ≡ blankTo n
-        → (isUse purpose ≡ true) × Blanks run [] × (n ≡ length run)
+    go : (b : Bool) → isUse (terms .purpose) ≡ b → choose b (λ _. nextBegun terms run (blanked run)) (λ _. refusedAt 17 0) ≡ blankTo n
+        → (isUse (terms .purpose) ≡ true) × Blanks run [] × (n ≡ length run)
     go true u g = let h = begun (blanked run) refl g in (u, h .0, h .1)
     go false u g = never (cc g)
 

@@ -1,5 +1,5 @@
 -- A table that is written comes back with its text bytes.
-use mathlib.Core.Path.{_≡_, refl, ap, sym, _∙_}
+use mathlib.Core.Path.{_≡_, refl, ap, sym, subst, _∙_}
 use mathlib.Core.List.{List}
 use mathlib.Core.Bool.{true}
 use Prim.Native.Nat.{ℕ, _≤_}
@@ -11,11 +11,11 @@ use lib.Seq.{take-at}
 use borrow.Author.Tests.{le-leb, lt-leb}
 use Rattle.json.proofs.Truth.{cond-true, cond-false}
 use Rattle.document.specs.Posology.{Posology}
-use Rattle.document.specs.Valid.{isUse, roomOf, strings}
+use Rattle.document.specs.Valid.{Valid, isUse, roomOf, strings}
 use Rattle.document.specs.Table.{tableOf}
 use Rattle.document.specs.Plain.{plain}
 use Rattle.document.specs.Values.{ends, answerValues, writingValues}
-use Rattle.document.specs.Answer.{Read, taken, read, readValues, tableAfter, bufferAfter, Reads}
+use Rattle.document.specs.Answer.{Read, taken, read, readValues, tableAfter, bufferAfter, termsOf, Reads}
 use Rattle.document.specs.Write as W
 use Rattle.document.specs.Write.{Write, writes, refuses, write, fitting, readable, writeValues, Writes}
 use Rattle.document.specs.declared.table.Table.{Table}
@@ -40,28 +40,28 @@ written-and-read purpose t bytes u h =
       too-long = λ room f. made room ∙ cond-false (leb (length (plain p)) room) _ _ (lt-leb (length (plain p)) room f);
       one = λ room w e. fitted room (plain p) w (sym (made room) ∙ e);
       posology = p;
-      back = λ room f. plain-reads purpose room p (u, s .valid) (s .fits) (omega arith);
+      back = λ terms e f. plain-reads terms p (subst (λ n. Valid n p) (sym e) (u, s .valid)) (s .fits) (omega arith);
       table = s .table;
       strings-first = sym (s .strings-first) ∙ ap (λ (m : ℕ). take m bytes) (sym n);
     }
 
 -- What was written, read in the room of a buffer that holds the strings.
-pub record ReadBack (purpose : ℕ) (t : Table) (bytes w : List ℕ) (room : ℕ) : Type 0 where
+pub record ReadBack (purpose : ℕ) (t : Table) (bytes w lent : List ℕ) : Type 0 where
   pub posology : Posology
-  pub back : read purpose (roomOf room) w ≡ taken posology
+  pub back : read (termsOf purpose lent) w ≡ taken posology
   pub table : tableOf posology ≡ t
   pub strings-first : strings posology ≡ take (t .text) bytes
 
-pub read-back : (purpose : ℕ) (t : Table) (bytes w : List ℕ) (room lent : ℕ) → write purpose t bytes room ≡ writes w → t .text ≤ lent → ReadBack purpose t bytes w lent
-read-back purpose t bytes w room lent e f =
+pub read-back : (purpose : ℕ) (t : Table) (bytes w lent : List ℕ) (room : ℕ) → write purpose t bytes room ≡ writes w → t .text ≤ length lent → ReadBack purpose t bytes w lent
+read-back purpose t bytes w lent room e f =
     let r = written-readable purpose t bytes room w e in
     let b = written-and-read purpose t bytes (r .0) (r .1) in
     let s = stands-for purpose t bytes (r .1) in
     let n : t .text ≡ length (strings (s .is)) = text-of (s .is) (s .table) in
-    let fits : t .text ≤ roomOf lent = le-min f (omega arith) in
+    let fits : t .text ≤ roomOf (length lent) = le-min f (omega arith) in
     record {
       posology = b .posology;
-      back = ap (read purpose (roomOf lent)) (b .one room w e) ∙ b .back (roomOf lent) fits;
+      back = ap (read (termsOf purpose lent)) (b .one room w e) ∙ b .back (termsOf purpose lent) refl fits;
       table = b .table;
       strings-first = b .strings-first;
     }
@@ -94,8 +94,8 @@ pub promised-back : {purpose n : ℕ} {t : Table} {bytes before after lent left 
     → (r .answer ≡ A.Taken) × (r .table ≡ t) × (take (t .text) left ≡ take (t .text) bytes)
 promised-back {purpose} {n} {t} {bytes} {before} {after} {lent} {left} a e b f =
     let x = text-first (write purpose t bytes (length before)) before (sym (ap writingValues e) ∙ a .answer) (a .left) in
-    let k = read-back purpose t bytes (x .text) (length before) (length lent) (x .is) f in
+    let k = read-back purpose t bytes (x .text) lent (length before) (x .is) f in
     let p = k .posology in
     let m : t .text ≡ length (strings p) = text-of p (k .table) in
-    let y = taken-leaves (read purpose (roomOf (length lent)) (take n after)) p lent (ap (read purpose (roomOf (length lent))) (x .first) ∙ k .back) (b .answer) (b .table) (b .left) in
+    let y = taken-leaves (read (termsOf purpose lent) (take n after)) p lent (ap (read (termsOf purpose lent)) (x .first) ∙ k .back) (b .answer) (b .table) (b .left) in
     (y .0, y .1 ∙ k .table, ap (λ (i : ℕ). take i left) m ∙ y .2 ∙ k .strings-first)

@@ -15,6 +15,7 @@ use Rattle.document.specs.Plain.{plain}
 use Rattle.document.specs.Valid.{Valid, Fits, strings}
 use Rattle.document.specs.Write.{Write, writes, refuses, write, fitting, greatestRoom}
 use Rattle.document.specs.Length.{greatestLength}
+use Rattle.document.specs.declared.terms.Terms.{Terms}
 use Rattle.meaning.proofs.Lengths.{plain-within}
 use Rattle.meaning.proofs.PlainThen.{plain-then}
 use Rattle.document.proofs.Tables.{own-written}
@@ -24,12 +25,12 @@ use Rattle.demands.specs.Runs.{inFront, writeAll, plainTexts, AllValid, 
 one-written : (purpose buffer : ℕ) (p : Posology) → Valid purpose p → Fits greatestRoom p → write purpose (tableOf p) (strings p) buffer ≡ fitting buffer (plain p)
 one-written purpose buffer p v f = ap (λ (s : List ℕ). write purpose (tableOf p) s buffer) (sym (append-nil (strings p))) ∙ own-written purpose buffer p [] v f
 
-pub texts-written : (purpose room buffer : ℕ) {ps : List Posology} → AllValid purpose room ps → AllWithin buffer ps → writeAll purpose buffer ps ≡ some (plainTexts ps)
+pub texts-written : (terms : Terms) (buffer : ℕ) {ps : List Posology} → AllValid terms ps → AllWithin buffer ps → writeAll (terms .purpose) buffer ps ≡ some (plainTexts ps)
 unfolding writeAll plainTexts
-texts-written purpose room buffer no-posology no-text = refl
-texts-written purpose room buffer (next-posology {p = p} {ps = ps} v f g w) (next-text h more) =
-    ap (λ (x : Write). inFront x (writeAll purpose buffer ps)) (one-written purpose buffer p v f ∙ cond-true (leb (length (plain p)) buffer) _ _ (le-leb (length (plain p)) buffer h))
-    ∙ ap (inFront (writes (plain p))) (texts-written purpose room buffer w more)
+texts-written terms buffer no-posology no-text = refl
+texts-written terms buffer (next-posology {p = p} {ps = ps} v f g w) (next-text h more) =
+    ap (λ (x : Write). inFront x (writeAll (terms .purpose) buffer ps)) (one-written (terms .purpose) buffer p v f ∙ cond-true (leb (length (plain p)) buffer) _ _ (le-leb (length (plain p)) buffer h))
+    ∙ ap (inFront (writes (plain p))) (texts-written terms buffer w more)
     ∙ ap some (sym (plain-then p (plainTexts ps)))
 
 -- Where all are written, the buffer holds each.
@@ -40,16 +41,16 @@ module _ (buffer : ℕ) (p : Posology) (ps : List Posology) (run : List ℕ) (re
   front-within true h none i e = let z : _≡_ {A = ℕ} 0 1 = cc in absurd (omega arith)
   front-within false h o i e = let z : _≡_ {A = ℕ} 0 1 = cc in absurd (omega arith)
 
-written-within : (purpose room buffer : ℕ) {ps : List Posology} (run : List ℕ) → AllValid purpose room ps → writeAll purpose buffer ps ≡ some run → AllWithin buffer ps
+written-within : (terms : Terms) (buffer : ℕ) {ps : List Posology} (run : List ℕ) → AllValid terms ps → writeAll (terms .purpose) buffer ps ≡ some run → AllWithin buffer ps
 unfolding writeAll
-written-within purpose room buffer run no-posology e = no-text
-written-within purpose room buffer run (next-posology {p = p} {ps = ps} v f g w) e =
-    front-within buffer p ps run (writeAll purpose buffer ps) (λ s i. written-within purpose room buffer s w i) (leb (length (plain p)) buffer) refl (writeAll purpose buffer ps) refl
-    (sym (ap (λ (x : Write). inFront x (writeAll purpose buffer ps)) (one-written purpose buffer p v f)) ∙ e)
+written-within terms buffer run no-posology e = no-text
+written-within terms buffer run (next-posology {p = p} {ps = ps} v f g w) e =
+    front-within buffer p ps run (writeAll (terms .purpose) buffer ps) (λ s i. written-within terms buffer s w i) (leb (length (plain p)) buffer) refl (writeAll (terms .purpose) buffer ps) refl
+    (sym (ap (λ (x : Write). inFront x (writeAll (terms .purpose) buffer ps)) (one-written (terms .purpose) buffer p v f)) ∙ e)
 
-pub written-texts : (purpose room buffer : ℕ) {ps : List Posology} (run : List ℕ) → AllValid purpose room ps → writeAll purpose buffer ps ≡ some run → plainTexts ps ≡ run
-written-texts purpose room buffer run v e = let a = texts-written purpose room buffer v (written-within purpose room buffer run v e) in cc
+pub written-texts : (terms : Terms) (buffer : ℕ) {ps : List Posology} (run : List ℕ) → AllValid terms ps → writeAll (terms .purpose) buffer ps ≡ some run → plainTexts ps ≡ run
+written-texts terms buffer run v e = let a = texts-written terms buffer v (written-within terms buffer run v e) in cc
 
-pub all-within : (purpose room : ℕ) {ps : List Posology} → AllValid purpose room ps → AllWithin greatestLength ps
-all-within purpose room no-posology = no-text
-all-within purpose room (next-posology {p = p} v f g w) = next-text {p = p} (plain-within purpose p (v .1) f) (all-within purpose room w)
+pub all-within : (terms : Terms) {ps : List Posology} → AllValid terms ps → AllWithin greatestLength ps
+all-within terms no-posology = no-text
+all-within terms (next-posology {p = p} v f g w) = next-text {p = p} (plain-within (terms .purpose) p (v .1) f) (all-within terms w)

@@ -15,6 +15,7 @@ use Rattle.document.specs.Valid.{Valid, Fits, strings}
 use Rattle.document.specs.Spells.{Means, openAtMost}
 use Rattle.document.specs.Write.{Write, writes, refuses, write, greatestRoom}
 use Rattle.document.specs.Answer.{ReadNext, takenTo, blankTo, refusedAt, readNext, textAtMost}
+use Rattle.document.specs.declared.terms.Terms.{Terms}
 
 -- Writing one after another, with nothing between, each into a buffer of so many bytes: nothing where one is refused.
 abbrev pub inFront : Write → Option (List ℕ) → Option (List ℕ)
@@ -49,14 +50,14 @@ onward from (blankTo n) more = some []
 onward from (refusedAt n place) more = none
 
 -- What is left of a run from a place on, if it has fewer than n texts.
-unfoldable pub readFrom : ℕ → ℕ → ℕ → ℕ → List ℕ → Option (List Ended)
+unfoldable pub readFrom : ℕ → Terms → ℕ → List ℕ → Option (List Ended)
 unfolding readNext
-readFrom zero purpose room from rest = none
-readFrom (suc n) purpose room from rest = onward from (readNext purpose room rest) (λ e. readFrom n purpose room (from + e) (drop e rest))
+readFrom zero terms from rest = none
+readFrom (suc n) terms from rest = onward from (readNext terms rest) (λ e. readFrom n terms (from + e) (drop e rest))
 
 -- No text is empty, so a run has no more texts than bytes.
-abbrev pub readAll : ℕ → ℕ → List ℕ → Option (List Ended)
-readAll purpose room run = readFrom (suc (length run)) purpose room 0 run
+abbrev pub readAll : Terms → List ℕ → Option (List Ended)
+readAll terms run = readFrom (suc (length run)) terms 0 run
 
 -- Plain texts one behind the other, and where each ends if the first begins at a place.
 unfoldable pub plainTexts : List Posology → List ℕ
@@ -70,9 +71,9 @@ endings from [] = []
 endings from (p ∷ ps) = ended p (from + length (plain p)) ∷ endings (from + length (plain p)) ps
 
 -- All of a list are valid and their strings fit.
-pub data AllValid (purpose room : ℕ) : List Posology → Type 0 where
-  no-posology : AllValid purpose room []
-  next-posology : {p : Posology} {ps : List Posology} → Valid purpose p → Fits greatestRoom p → Fits room p → AllValid purpose room ps → AllValid purpose room (p ∷ ps)
+pub data AllValid (terms : Terms) : List Posology → Type 0 where
+  no-posology : AllValid terms []
+  next-posology : {p : Posology} {ps : List Posology} → Valid (terms .purpose) p → Fits greatestRoom p → Fits (terms .room) p → AllValid terms ps → AllValid terms (p ∷ ps)
 
 -- The plain texts of a list have each at most so many bytes.
 pub data AllWithin (most : ℕ) : List Posology → Type 0 where

@@ -8,6 +8,7 @@ use Rattle.document.specs.Valid.{strings}
 use Rattle.document.specs.Table.{tableOf}
 use Rattle.document.specs.Answer.{taken, read}
 use Rattle.document.specs.Write.{writes, refuses, write}
+use Rattle.document.specs.declared.terms.Terms.{Terms}
 use Rattle.document.specs.declared.table.Table.{Table}
 
 -- Of a table with its text bytes: the one text that it is written as, and what reading that text comes to.
@@ -17,6 +18,6 @@ pub record WrittenAndRead (purpose : ℕ) (t : Table) (bytes : List ℕ) : Type 
   pub too-long : (room : ℕ) → room < length text → write purpose t bytes room ≡ refuses 19 (length text)
   pub one : (room : ℕ) (w : List ℕ) → write purpose t bytes room ≡ writes w → w ≡ text
   pub posology : Posology
-  pub back : (room : ℕ) → t .text ≤ room → read purpose room text ≡ taken posology
+  pub back : (terms : Terms) → terms .purpose ≡ purpose → t .text ≤ terms .room → read terms text ≡ taken posology
   pub table : tableOf posology ≡ t
   pub strings-first : strings posology ≡ take (t .text) bytes

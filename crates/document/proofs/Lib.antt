@@ -12,6 +12,8 @@ mod Calendar
 -- What is valid, part by part
 pub mod DetailParts
 pub mod ValidParts
+-- What is taken while reading
+pub mod Taken
 -- What is written
 pub mod Written
 pub mod WrittenDates

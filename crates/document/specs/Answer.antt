@@ -15,6 +15,7 @@ use Rattle.document.specs.Visit.{Outcome, done, refuse, visit}
 use Rattle.document.specs.Valid.{isUse, roomOf, strings}
 use Rattle.document.specs.Table.{tableOf, emptyTable}
 use Rattle.document.specs.Values.{Values, accepted, ends, blanksOnly, number, answerValues, nextValues}
+use Rattle.document.specs.declared.terms.Terms.{Terms}
 use Rattle.document.specs.declared.table.Table.{Table}
 use Rattle.document.specs.declared.table.Reading.{Reading}
 use Rattle.document.specs.declared.table.NextReading.{NextReading}
@@ -32,20 +33,20 @@ visited start (done p l) = taken p
 visited start (refuse n p) = refused n (placeIn start p)
 
 -- The object that was walked, read: places count from the start of all that was given.
-abbrev pub readWalked : ℕ → ℕ → List ℕ → Read
-readWalked purpose room text = visited text (visit purpose room (treeOf text))
+abbrev pub readWalked : Terms → List ℕ → Read
+readWalked terms text = visited text (visit terms (treeOf text))
 
-abbrev pub afterWalk : ℕ → ℕ → List ℕ → Walked → Read
-afterWalk purpose room text (end r) = readWalked purpose room text
-afterWalk purpose room text (refused2 p) = refused 2 (placeIn text p)
-afterWalk purpose room text (refused3 p) = refused 3 (placeIn text p)
+abbrev pub afterWalk : Terms → List ℕ → Walked → Read
+afterWalk terms text (end r) = readWalked terms text
+afterWalk terms text (refused2 p) = refused 2 (placeIn text p)
+afterWalk terms text (refused3 p) = refused 3 (placeIn text p)
 
 -- "Order: 17; 1; then the whole text for 2 and 3 .. Then objects in visiting order."
-unfoldable pub read : ℕ → ℕ → List ℕ → Read
+unfoldable pub read : Terms → List ℕ → Read
 unfolding visit treeOf oneObject
-read purpose room text =
-    choose (isUse purpose) (λ _.
-    choose (leb (length text) textAtMost) (λ _. afterWalk purpose room text (oneObject text)) λ _.
+read terms text =
+    choose (isUse (terms .purpose)) (λ _.
+    choose (leb (length text) textAtMost) (λ _. afterWalk terms text (oneObject text)) λ _.
     refused 1 textAtMost) λ _.
     refused 17 0
 
@@ -63,24 +64,24 @@ upTo e (refused n place) = refusedAt n place
 abbrev pub notEnded : ℕ → List ℕ → ℕ → ReadNext
 notEnded n run place = cond (leb (length run) textAtMost || ltb place textAtMost) (refusedAt n place) (refusedAt 1 textAtMost)
 
-abbrev pub endsAt : ℕ → ℕ → List ℕ → ℕ → ReadNext
-endsAt purpose room run e = choose (leb e textAtMost) (λ _. upTo e (readWalked purpose room run)) λ _. refusedAt 1 textAtMost
+abbrev pub endsAt : Terms → List ℕ → ℕ → ReadNext
+endsAt terms run e = choose (leb e textAtMost) (λ _. upTo e (readWalked terms run)) λ _. refusedAt 1 textAtMost
 
-abbrev pub nextWalked : ℕ → ℕ → List ℕ → Walked → ReadNext
-nextWalked purpose room run (end r) = endsAt purpose room run (placeIn run r)
-nextWalked purpose room run (refused2 p) = notEnded 2 run (placeIn run p)
-nextWalked purpose room run (refused3 p) = notEnded 3 run (placeIn run p)
+abbrev pub nextWalked : Terms → List ℕ → Walked → ReadNext
+nextWalked terms run (end r) = endsAt terms run (placeIn run r)
+nextWalked terms run (refused2 p) = notEnded 2 run (placeIn run p)
+nextWalked terms run (refused3 p) = notEnded 3 run (placeIn run p)
 
 -- "A run of nothing but blanks .. gets the answer that only blanks remain .. Otherwise a run takes the shortest beginning, leading blanks
 -- included, that is such a text; what follows isn't looked at."
-abbrev pub nextBegun : ℕ → ℕ → List ℕ → List ℕ → ReadNext
-nextBegun purpose room run [] = blankTo (length run)
-nextBegun purpose room run (b ∷ s) = nextWalked purpose room run (firstObject run)
+abbrev pub nextBegun : Terms → List ℕ → List ℕ → ReadNext
+nextBegun terms run [] = blankTo (length run)
+nextBegun terms run (b ∷ s) = nextWalked terms run (firstObject run)
 
-unfoldable pub readNext : ℕ → ℕ → List ℕ → ReadNext
+unfoldable pub readNext : Terms → List ℕ → ReadNext
 unfolding visit treeOf walk blanked
-readNext purpose room run =
-    choose (isUse purpose) (λ _. nextBegun purpose room run (blanked run)) λ _. refusedAt 17 0
+readNext terms run =
+    choose (isUse (terms .purpose)) (λ _. nextBegun terms run (blanked run)) λ _. refusedAt 17 0
 
 -- What a call answers, and what it leaves in the lent text buffer: a refusal, or only blanks, leaves it as lent and answers an empty table.
 abbrev pub laid : List ℕ → List ℕ → List ℕ
@@ -113,13 +114,20 @@ nextBufferAfter (takenTo p e) buffer = laid (strings p) buffer
 nextBufferAfter (blankTo n) buffer = buffer
 nextBufferAfter (refusedAt n place) buffer = buffer
 
+-- A use and a lent text buffer, of so many bytes: "Text room is the buffer's length or 2,048 bytes, the smaller."
+abbrev pub inRoom : ℕ → ℕ → Terms
+inRoom purpose lent = record { purpose = purpose; room = roomOf lent }
+
+abbrev pub termsOf : ℕ → List ℕ → Terms
+termsOf purpose buffer = inRoom purpose (length buffer)
+
 -- The promise of reading: answer, table and buffer, for every text, use and buffer.
 pub record Reads (purpose : ℕ) (text before : List ℕ) (r : Reading) (after : List ℕ) : Type 0 where
-  pub answer : answerValues (r .answer) ≡ readValues (read purpose (roomOf (length before)) text)
-  pub table : r .table ≡ tableAfter (read purpose (roomOf (length before)) text)
-  pub left : after ≡ bufferAfter (read purpose (roomOf (length before)) text) before
+  pub answer : answerValues (r .answer) ≡ readValues (read (termsOf purpose before) text)
+  pub table : r .table ≡ tableAfter (read (termsOf purpose before) text)
+  pub left : after ≡ bufferAfter (read (termsOf purpose before) text) before
 
 pub record ReadsNext (purpose : ℕ) (run before : List ℕ) (r : NextReading) (after : List ℕ) : Type 0 where
-  pub answer : nextValues (r .answer) ≡ readNextValues (readNext purpose (roomOf (length before)) run)
-  pub table : r .table ≡ nextTableAfter (readNext purpose (roomOf (length before)) run)
-  pub left : after ≡ nextBufferAfter (readNext purpose (roomOf (length before)) run) before
+  pub answer : nextValues (r .answer) ≡ readNextValues (readNext (termsOf purpose before) run)
+  pub table : r .table ≡ nextTableAfter (readNext (termsOf purpose before) run)
+  pub left : after ≡ nextBufferAfter (readNext (termsOf purpose before) run) before

@@ -6,6 +6,7 @@ pub mod Moments
 pub mod Schema
 pub mod Lookup
 pub mod Visit
+pub mod Told
 pub mod At
 pub mod Valid
 pub mod Table

@@ -12,6 +12,7 @@ use Rattle.numbers.specs.declared.Integer.{Integer}
 use Rattle.numbers.specs.declared.Integer.the-variants as I
 use Rattle.numbers.specs.declared.Decimal.{Decimal}
 use Rattle.numbers.specs.declared.Decimal.the-variants as D
+use Rattle.document.specs.declared.terms.Terms.{Terms}
 use Rattle.document.specs.Bytes.{bytes}
 use Rattle.document.specs.Posology.{Posology}
 use Rattle.document.specs.Date.{among, dateOf, timeOf}
@@ -29,11 +30,28 @@ recordLess l = record { records = l .records - 1; room = l .room }
 abbrev pub roomLess : ℕ → Left → Left
 roomLess n l = record { records = l .records; room = l .room - n }
 
+-- What is handed on from one field to the next. A reading looks at what is left, and at nothing else of it.
+pub record State : Type 0 where
+  pub left : Left
+
+abbrev pub recordsAtMost : ℕ
+recordsAtMost = 64
+
+abbrev pub start : Terms → State
+start terms = record { left = record { records = recordsAtMost; room = terms .room } }
+
+-- A record is taken; a string of so many bytes is laid.
+abbrev pub opened : State → State
+opened s = record { left = recordLess (s .left) }
+
+abbrev pub laid : ℕ → State → State
+laid n s = record { left = roomLess n (s .left) }
+
 pub data Outcome (A : Type 0) : Type 0 where
-  done : A → Left → Outcome A
+  done : A → State → Outcome A
   refuse : ℕ → Place → Outcome A
 
-abbrev pub bind : {A B : Type 0} → Outcome A → (A → Left → Outcome B) → Outcome B
+abbrev pub bind : {A B : Type 0} → Outcome A → (A → State → Outcome B) → Outcome B
 bind (done a l) f = f a l
 bind (refuse n p) f = refuse n p
 
@@ -49,10 +67,10 @@ unless (some p) n r = refuse n p
 pub record Value : Type 0 where
   pub place : Place
   pub absent : Shape → Bool
-  pub read : (s : Shape) → Left → Outcome (Of s)
+  pub read : (s : Shape) → State → Outcome (Of s)
 
 -- "A required member that is null, or a required string that is empty, is missing."
-abbrev pub needed : (s : Shape) → Place → Found Value → Left → Outcome (Of s)
+abbrev pub needed : (s : Shape) → Place → Found Value → State → Outcome (Of s)
 needed s p nothing l = refuse 7 p
 needed s p (one v) l = guard (not (v .absent s)) 7 p (v .read s l)
 needed s p twice l = refuse 6 p
@@ -61,25 +79,25 @@ needed s p twice l = refuse 6 p
 abbrev pub present : {A : Type 0} → Outcome A → Outcome (Option A)
 present r = bind r λ a l. done (some a) l
 
-abbrev pub optional : (s : Shape) → Place → Found Value → Left → Outcome (Option (Of s))
+abbrev pub optional : (s : Shape) → Place → Found Value → State → Outcome (Option (Of s))
 optional s p nothing l = done none l
 optional s p (one v) l = cond (v .absent s) (done none l) (present (v .read s l))
 optional s p twice l = refuse 6 p
 
 -- The fields of an object, whose brace is at p.
-abbrev pub fields : {A : Type 0} → Rows A → Place → List (Entry Value) → Left → Outcome A
+abbrev pub fields : {A : Type 0} → Rows A → Place → List (Entry Value) → State → Outcome A
 fields (need n s k) p es l = bind (needed s p (find (bytes n) es) l) λ x l′. fields (k x) p es l′
 fields (may n s k) p es l = bind (optional s p (find (bytes n) es) l) λ x l′. fields (k x) p es l′
 fields (gives a) p es l = done a l
 fields (gives-if test a) p es l = guard test 12 p (done a l)
 
 -- 15: an object that is a record takes one of those left.
-abbrev pub opening : {A : Type 0} → Bool → Place → Left → (Left → Outcome A) → Outcome A
-opening true p l f = guard (ltb 0 (l .records)) 15 p (f (recordLess l))
+abbrev pub opening : {A : Type 0} → Bool → Place → State → (State → Outcome A) → Outcome A
+opening true p l f = guard (ltb 0 (l .left .records)) 15 p (f (opened l))
 opening false p l f = f l
 
 -- An object of a known type: 15, then 5, then its fields.
-abbrev pub body : (f : Family) → ℕ → List (List ℕ) → Place → List (Entry Value) → Left → Outcome (OfFamily f)
+abbrev pub body : (f : Family) → ℕ → List (List ℕ) → Place → List (Entry Value) → State → Outcome (OfFamily f)
 body f t also p es l = opening (isRecord f) p l λ l′. unless (unknown (also ++ names (rowsOf f t)) es) 5 (fields (rowsOf f t) p es l′)
 
 abbrev pub placeOf : Place → Found Value → Place
@@ -88,7 +106,7 @@ placeOf p (one v) = v .place
 placeOf p twice = p
 
 -- "t (7, 4, 8, 9, 10, 14; applications and the head have none)"
-abbrev pub typed : ℕ → (f : Family) → Place → List (Entry Value) → Left → Outcome (OfFamily f)
+abbrev pub typed : ℕ → (f : Family) → Place → List (Entry Value) → State → Outcome (OfFamily f)
 typed types f p es l =
     let found = find (bytes "t") es in
     bind (needed (aNumber (integer 1 types)) p found l) λ t l′.
@@ -96,40 +114,40 @@ typed types f p es l =
     (guard (mayOpen f t) 14 (placeOf p found)
     (body f t (bytes "t" ∷ []) p es l′))
 
-abbrev pub byType : Bool → (f : Family) → Place → List (Entry Value) → Left → Outcome (OfFamily f)
+abbrev pub byType : Bool → (f : Family) → Place → List (Entry Value) → State → Outcome (OfFamily f)
 byType true f p es l = body f 0 [] p es l
 byType false f p es l = typed (typesOf f) f p es l
 
-abbrev pub members : (f : Family) → Place → List (Entry Value) → Left → Outcome (OfFamily f)
+abbrev pub members : (f : Family) → Place → List (Entry Value) → State → Outcome (OfFamily f)
 members f p es l = unless (repeated [] es) 6 (byType (eqb (typesOf f) 0) f p es l)
 
 -- A number: 8, then 9.
-abbrev pub whole : Place → Left → Integer → Outcome ℕ
+abbrev pub whole : Place → State → Integer → Outcome ℕ
 whole p l (I.Whole n exact) = done n l
 whole p l I.NotCarried = refuse 8 p
 whole p l I.Outside = refuse 9 p
 
-abbrev pub millionths : Place → Left → Decimal → Outcome ℕ
+abbrev pub millionths : Place → State → Decimal → Outcome ℕ
 millionths p l (D.Millionths n) = done n l
 millionths p l D.NotCarried = refuse 8 p
 millionths p l D.Outside = refuse 9 p
 
-abbrev pub digits : NumberShape → Place → List ℕ → Left → Outcome ℕ
+abbrev pub digits : NumberShape → Place → List ℕ → State → Outcome ℕ
 digits (integer lo hi) p raw l = whole p l (integerIn lo hi raw)
 digits (decimal lo) p raw l = millionths p l (decimalFrom lo raw)
 
 -- A string: 13 for a date or time, 16 for a text.
-abbrev pub orRefused : {A : Type 0} → ℕ → Place → Left → Option A → Outcome A
+abbrev pub orRefused : {A : Type 0} → ℕ → Place → State → Option A → Outcome A
 orRefused n p l none = refuse n p
 orRefused n p l (some a) = done a l
 
-abbrev pub chars : (s : StringShape) → Place → List ℕ → Left → Outcome (OfString s)
-chars text p cs l = guard (leb (length cs) (l .room)) 16 p (done cs (roomLess (length cs) l))
+abbrev pub chars : (s : StringShape) → Place → List ℕ → State → Outcome (OfString s)
+chars text p cs l = guard (leb (length cs) (l .left .room)) 16 p (done cs (laid (length cs) l))
 chars date p cs l = orRefused 13 p l (dateOf cs)
 chars time p cs l = orRefused 13 p l (timeOf cs)
 
 -- A list: the count, then the elements, then repeats.
-abbrev pub each : (s : Shape) → List Value → Left → Outcome (List (Of s))
+abbrev pub each : (s : Shape) → List Value → State → Outcome (List (Of s))
 each s [] l = done [] l
 each s (v ∷ vs) l = bind (v .read s l) λ a l′. bind (each s vs l′) λ as′ l″. done (a ∷ as′) l″
 
@@ -150,7 +168,7 @@ abbrev pub ascending : List ℕ → List ℕ
 ascending [] = []
 ascending (d ∷ ds) = inserted d (ascending ds)
 
-abbrev pub decimals : Place → List Value → Left → Outcome Four
+abbrev pub decimals : Place → List Value → State → Outcome Four
 decimals p [] l = refuse 11 p
 decimals p (a ∷ []) l = refuse 11 p
 decimals p (a ∷ b ∷ []) l = refuse 11 p
@@ -163,7 +181,7 @@ decimals p (a ∷ b ∷ c ∷ d ∷ []) l =
     done (record { morning = m; noon = n; evening = e; night = i }) l₄
 decimals p (a ∷ b ∷ c ∷ d ∷ e ∷ vs) l = refuse 11 p
 
-abbrev pub elements : (s : ListShape) → Place → List Value → Left → Outcome (OfList s)
+abbrev pub elements : (s : ListShape) → Place → List Value → State → Outcome (OfList s)
 elements fourDecimals p vs l = decimals p vs l
 elements (days hi) p vs l =
     guard (not (isEmpty vs)) 11 p
@@ -172,35 +190,35 @@ elements (some-objects f) p vs l = guard (not (isEmpty vs)) 11 p (each (anObject
 elements (any-objects f) p vs l = each (anObject f) vs l
 
 -- Each JSON kind against each shape: 4 where they differ.
-abbrev pub ofNumber : Place → List ℕ → (s : Shape) → Left → Outcome (Of s)
+abbrev pub ofNumber : Place → List ℕ → (s : Shape) → State → Outcome (Of s)
 ofNumber p raw (aNumber n) l = digits n p raw l
 ofNumber p raw (aString s) l = refuse 4 p
 ofNumber p raw aFlag l = refuse 4 p
 ofNumber p raw (anObject f) l = refuse 4 p
 ofNumber p raw (aList s) l = refuse 4 p
 
-abbrev pub ofString : Place → List ℕ → (s : Shape) → Left → Outcome (Of s)
+abbrev pub ofString : Place → List ℕ → (s : Shape) → State → Outcome (Of s)
 ofString p cs (aNumber n) l = refuse 4 p
 ofString p cs (aString s) l = chars s p cs l
 ofString p cs aFlag l = refuse 4 p
 ofString p cs (anObject f) l = refuse 4 p
 ofString p cs (aList s) l = refuse 4 p
 
-abbrev pub ofBool : Place → Bool → (s : Shape) → Left → Outcome (Of s)
+abbrev pub ofBool : Place → Bool → (s : Shape) → State → Outcome (Of s)
 ofBool p b (aNumber n) l = refuse 4 p
 ofBool p b (aString s) l = refuse 4 p
 ofBool p b aFlag l = done b l
 ofBool p b (anObject f) l = refuse 4 p
 ofBool p b (aList s) l = refuse 4 p
 
-abbrev pub ofObject : Place → List (Entry Value) → (s : Shape) → Left → Outcome (Of s)
+abbrev pub ofObject : Place → List (Entry Value) → (s : Shape) → State → Outcome (Of s)
 ofObject p es (aNumber n) l = refuse 4 p
 ofObject p es (aString s) l = refuse 4 p
 ofObject p es aFlag l = refuse 4 p
 ofObject p es (anObject f) l = members f p es l
 ofObject p es (aList s) l = refuse 4 p
 
-abbrev pub ofList : Place → List Value → (s : Shape) → Left → Outcome (Of s)
+abbrev pub ofList : Place → List Value → (s : Shape) → State → Outcome (Of s)
 ofList p vs (aNumber n) l = refuse 4 p
 ofList p vs (aString s) l = refuse 4 p
 ofList p vs aFlag l = refuse 4 p
@@ -234,10 +252,7 @@ unfoldable mutual
   valuesOf noElement = []
   valuesOf (element t es) = valueOf t ∷ valuesOf es
 
--- A tree read as one posology, with so much text room.
-abbrev pub recordsAtMost : ℕ
-recordsAtMost = 64
-
-unfoldable pub visit : ℕ → ℕ → Tree → Outcome Posology
+-- A tree read as one posology.
+unfoldable pub visit : Terms → Tree → Outcome Posology
 unfolding valueOf
-visit purpose room t = valueOf t .read (anObject (Family.aPosology purpose)) (record { records = recordsAtMost; room = room })
+visit terms t = valueOf t .read (anObject (Family.aPosology (terms .purpose))) (start terms)

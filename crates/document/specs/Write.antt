@@ -15,6 +15,7 @@ use Rattle.document.specs.Untable.{posologyOf}
 use Rattle.document.specs.Plain.{plain, plainThen}
 use Rattle.document.specs.Answer.{laid}
 use Rattle.document.specs.Values.{Values, ends, number, writingValues}
+use Rattle.document.specs.declared.terms.Terms.{Terms}
 use Rattle.document.specs.declared.table.Table.{Table}
 use Rattle.document.specs.declared.table.Head.{Head}
 use Rattle.document.specs.declared.table.Text.{Text}
@@ -26,6 +27,9 @@ use Rattle.document.specs.declared.table.HeadText.the-variants as H
 
 abbrev pub greatestRoom : ℕ
 greatestRoom = 2048
+
+abbrev pub inGreatestRoom : ℕ → Terms
+inGreatestRoom purpose = record { purpose = purpose; room = greatestRoom }
 
 -- A table is that of p, with p's strings first in the text buffer, and p can be read.
 abbrev pub isTableOf : ℕ → Table → List ℕ → Posology → Bool

@@ -2,4 +2,5 @@
 pub mod dates;
 pub mod moments;
 pub mod table;
+pub mod terms;
 pub mod uses;

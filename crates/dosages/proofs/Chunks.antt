@@ -5,26 +5,28 @@ use mathlib.Core.List.{List, [], _∷_, _++_}
 use mathlib.Core.Bool.{Bool, true, false, cond}
 use native.Mathlib.Omega.{arith}
 use lib.ListN.{length}
+use lib.Seq.{sets}
 use Rattle.document.specs.Posology as P
 use Rattle.document.specs.Schema.{OfFamily}
 use Rattle.document.specs.Valid.{timedRecords}
-use Rattle.document.specs.Table.{daySet, dosageRow, timesRows, segmentsRows, timedRows}
-use Rattle.document.specs.Visit.{Outcome}
-use Rattle.document.specs.Words.{words, row, rows, allWords}
-use Rattle.dosages.specs.Visiting.{RowsOf, Did, anApplication, applicationsRows}
-use Rattle.records.specs.Records.{more}
-use Rattle.records.specs.declared.rows.Used.{Used}
-use Rattle.dosages.proofs.Rowed.{count-below}
+use Rattle.document.specs.Table.{daySet, dosageCell, dosageRow, timesRows, segmentsRows, timedRows}
+use Rattle.document.specs.Visit.{State, Outcome, done}
+use Rattle.document.specs.Told.{Tells, Still, more}
+use Rattle.document.specs.Words.{width, words, dosageWords, row, rows, allWords}
+use Rattle.document.specs.declared.terms.Terms.{Terms}
+use Rattle.document.specs.declared.terms.Used.{Used}
+use Rattle.dosages.specs.Visiting.{RowsIn, Did, DosageRows, anApplication, applicationsRows}
+use Rattle.dosages.proofs.Rowed.{count-below, leaf-did}
 use Rattle.dosages.proofs.Alike.{application, withApplications, onDays, either}
 
 -- How many words each value takes: six a record.
-pub applications-length : (timed : Bool) (as′ : List (OfFamily (anApplication timed))) → length (rows (allWords (applicationsRows timed as′))) ≡ (length as′ + length as′) * 6
+pub applications-length : (timed : Bool) (as′ : List (OfFamily (anApplication timed))) → length (rows (allWords (applicationsRows timed as′))) ≡ (length as′ + length as′) * width
 applications-length true [] = refl
 applications-length true (P.atTime d dt ∷ ts) = omega (arith, applications-length true ts)
 applications-length false [] = refl
 applications-length false (P.inSegment d s ∷ ss) = omega (arith, applications-length false ss)
 
-pub timed-length : (td : P.Timed) → length (rows (allWords (timedRows td []))) ≡ timedRecords td * 6
+pub timed-length : (td : P.Timed) → length (rows (allWords (timedRows td []))) ≡ timedRecords td * width
 unfolding timedRows
 timed-length (P.dosageOnly d) = refl
 timed-length (P.times ts) = omega (arith, applications-length true ts)
@@ -54,9 +56,9 @@ application-rows timed d a {n = n} {k} t e e′ =
     either (λ t tag. row (words n tag a 0 0 0) k ≡ rows (allWords (applicationsRows t (application t d a ∷ [])))) timed t (row-above 17 a 0 0 0 e e′) (row-above 18 a 0 0 0 e e′)
 
 -- How many records are below one, by the words of what was done there.
-pub counted : {B : Type 0} {room : ℕ} (u : Used) {v : Used} {before mid : List ℕ} {below : RowsOf B} {o : Outcome B} (d : Did room (more u) before below o v mid) (n : ℕ) {c : List ℕ}
-    → d .chunk ≡ c → length c ≡ n * 6 → v .records - u .records - 1 ≡ n
-counted u d n e h = omega (arith, count-below d n (ap length e ∙ h))
+pub counted : {B : Type 0} {terms : Terms} {text : List ℕ} (u v′ : Used) {w v : Used} {before mid : List ℕ} {below : RowsIn B} {o : Outcome B} (d : Did terms text w before below o v mid)
+    (n : ℕ) {c : List ℕ} → d .chunk ≡ c → length c ≡ n * width → w .records ≡ u .records + 1 → v′ .records ≡ v .records → v′ .records - u .records - 1 ≡ n
+counted u v′ d n e h one same = omega (arith, count-below d n (ap length e ∙ h))
 
 -- The records of each timed dosage, its own in front.
 module _ {n : ℕ} {k : List ℕ} where
@@ -80,3 +82,9 @@ module _ {n : ℕ} {k : List ℕ} where
   pub interval-rows : (d : P.Dosage) (du unit : ℕ) → n ≡ 1 → k ≡ rows (allWords (dosageRow d ∷ [])) → row (words n 11 du unit 0 0) k ≡ rows (allWords (timedRows (P.interval d du unit) []))
   unfolding timedRows
   interval-rows d du unit e e′ = row-above 11 du unit 0 0 e e′
+
+-- A dosage is one record, with none below it.
+pub dosage-did : {terms : Terms} {text : List ℕ} {u v : Used} {before after : List ℕ} {o : Outcome P.Dosage} {s : State} (d : P.Dosage) → o ≡ done d s → Tells terms text v s → Still (more u) v
+    → after ≡ sets before (width * u .records) (row (dosageWords (v .records - u .records - 1) (dosageCell d)) []) → Did terms text u before DosageRows o v after
+dosage-did {u = u} {v} d e tells s stored =
+    leaf-did d (dosageWords (v .records - u .records - 1) (dosageCell d)) e tells (ap (λ n. row (dosageWords n (dosageCell d)) []) (omega (arith, s .records)), s .text) (s .records) stored

@@ -9,7 +9,7 @@ use Rattle.document.specs.Bytes.{bytes}
 use Rattle.document.specs.Posology as P
 use Rattle.document.specs.Lookup.{Entry, find}
 use Rattle.document.specs.Schema.{aTimed, aDosage, integer, decimal, aNumber, anObject, aList, days, any-objects, underDays, rowsOf, typesOf, dosageOnlyRows, timesRows, daySegmentsRows, weekDaysRows, daysOfMonthRows, intervalRows, simpleRows, fromToRows, rangeRows, atTimeRows, inSegmentRows}
-use Rattle.document.specs.Visit.{Left, done, bind, guard, needed, fields, Value}
+use Rattle.document.specs.Visit.{State, done, bind, guard, needed, fields, Value}
 use Rattle.names.specs.Names.{names, nameAt, isRow}
 use Rattle.dosages.specs.Visiting.{anApplication, ownField}
 use Rattle.dosages.proofs.Alike.{application, withApplications, onDays, either}
@@ -70,7 +70,7 @@ module _ (ts : List ℕ) where
   interval-known = record { counted = refl; named = refl }
 
 -- What each reads, field by field.
-module _ (p : Place) (es : List (Entry Value)) (l : Left) where
+module _ (p : Place) (es : List (Entry Value)) (l : State) where
   pub simple-fields : fields (rowsOf aDosage 1) p es l ≡ (bind (needed (aNumber (decimal 1)) p (find (nameAt 15) es) l) λ a l₁. done (P.simple a) l₁)
   unfolding rowsOf simpleRows nameAt names
   simple-fields = refl

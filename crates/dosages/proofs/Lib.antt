@@ -4,5 +4,8 @@ pub mod Bodies
 mod Alike
 mod Known
 pub mod Chunks
+mod Applied
 pub mod Listing
-mod Under
+mod Parents
+pub mod Below
+mod TimedBodies

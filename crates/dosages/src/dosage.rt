@@ -1,5 +1,9 @@
 // Dosages (document 01, "Objects": Simple, FromTo, Range).
+use document::terms;
+use document::terms::Terms;
+use document::terms::Used;
 use fields::field;
+use fields::field::Counted;
 use fields::field::Field;
 use fields::field::Found;
 use names::A;
@@ -12,18 +16,18 @@ use names::DU_U;
 use names::T;
 use names::Unknown;
 use opening::opened;
+use opening::opened::Object;
 use opening::opened::Opened;
 use records::rows;
-use records::rows::Used;
 use records::rows::Visit;
 use records::rows::up;
+use records::rows::up_counted;
 use records::rows::up_found;
 ghost use Prim.Native.Nat.{_≤_, _<_};
 ghost use lib.ListN.{length};
 ghost use Rattle.document.specs.Schema.{aDosage};
-ghost use Rattle.dosages.specs.Visiting.{Ready, DosageRows, VisitsBody, VisitsObject, VisitsNeeded};
-ghost use Rattle.records.specs.Records.{more};
-ghost use Rattle.dosages.specs.Kept.{Kept};
+ghost use Rattle.dosages.specs.Visiting.{DosageRows, VisitsTyped, VisitsObject, VisitsNeeded};
+ghost use Rattle.dosages.specs.Kept.{Ready, Kept};
 
 const SIMPLE: [usize; 2] = [T, A];
 
@@ -31,11 +35,12 @@ const FROM_TO: [usize; 5] = [T, A_FROM, A_TO, DU_U, DU];
 
 const RANGE: [usize; 3] = [T, A_MIN, A_MAX];
 
-fn simple(text: &[u8], at: usize, o: Opened, used: Used, words: &mut [u64]) -> Visit
-    requires { ⌜ Ready (now words) used × (used .records < 64) × (at ≤ length (now text)) ⌝ }
-    ensures { λ r. ⌜ VisitsBody aDosage 1 DosageRows (now (text .entry)) at o used (now (words .entry)) r (now (words .exit)) ⌝ }
-    ensures { λ r. ⌜ Kept 1 (now (words .entry)) used r (now (words .exit)) ⌝ }
+fn simple(text: &[u8], at: usize, o: Object, terms: Terms, used: Used, words: &mut [u64]) -> Visit
+    requires { ⌜ Ready terms (now words) used × (used .records < 64) × (at ≤ length (now text)) ⌝ }
+    ensures { λ r. ⌜ VisitsTyped terms aDosage 1 DosageRows (now (text .entry)) at o used (now (words .entry)) r (now (words .exit)) ⌝ }
+    ensures { λ r. ⌜ Kept terms 1 (now (words .entry)) used r (now (words .exit)) ⌝ }
 {
+    let i = used.records;
     let slots = o.slots;
     if let Unknown::At(q) = names::unknown_name(text, at, o.members, &slots, &SIMPLE) {
         return Visit::Refused(5, q);
@@ -44,14 +49,15 @@ fn simple(text: &[u8], at: usize, o: Opened, used: Used, words: &mut [u64]) -> V
     let Field::Is(a) = f else {
         return up(f);
     };
-    rows::leaf(words, used, 12, a, 0, 0, 0)
+    rows::store(words, i, terms::one_more(used), 12, a, 0, 0, 0)
 }
 
-fn from_to(text: &[u8], at: usize, o: Opened, used: Used, words: &mut [u64]) -> Visit
-    requires { ⌜ Ready (now words) used × (used .records < 64) × (at ≤ length (now text)) ⌝ }
-    ensures { λ r. ⌜ VisitsBody aDosage 2 DosageRows (now (text .entry)) at o used (now (words .entry)) r (now (words .exit)) ⌝ }
-    ensures { λ r. ⌜ Kept 1 (now (words .entry)) used r (now (words .exit)) ⌝ }
+fn from_to(text: &[u8], at: usize, o: Object, terms: Terms, used: Used, words: &mut [u64]) -> Visit
+    requires { ⌜ Ready terms (now words) used × (used .records < 64) × (at ≤ length (now text)) ⌝ }
+    ensures { λ r. ⌜ VisitsTyped terms aDosage 2 DosageRows (now (text .entry)) at o used (now (words .entry)) r (now (words .exit)) ⌝ }
+    ensures { λ r. ⌜ Kept terms 1 (now (words .entry)) used r (now (words .exit)) ⌝ }
 {
+    let i = used.records;
     let slots = o.slots;
     if let Unknown::At(q) = names::unknown_name(text, at, o.members, &slots, &FROM_TO) {
         return Visit::Refused(5, q);
@@ -64,25 +70,27 @@ fn from_to(text: &[u8], at: usize, o: Opened, used: Used, words: &mut [u64]) -> 
     let Field::Is(to) = f else {
         return up(f);
     };
-    let f = field::integer_field(text, at, slots[DU_U], 1, 7);
-    let Field::Is(unit) = f else {
-        return up(f);
+    let used = terms::one_more(used);
+    let f = field::integer_field(text, at, slots[DU_U], 1, 7, used);
+    let Counted::Is(unit, used) = f else {
+        return up_counted(f);
     };
-    let f = field::integer_field(text, at, slots[DU], 1, 99999);
-    let Field::Is(du) = f else {
-        return up(f);
+    let f = field::integer_field(text, at, slots[DU], 1, 99999, used);
+    let Counted::Is(du, used) = f else {
+        return up_counted(f);
     };
     if to <= from {
         return Visit::Refused(12, at);
     }
-    rows::leaf(words, used, 13, from, to, unit, du)
+    rows::store(words, i, used, 13, from, to, unit, du)
 }
 
-fn range(text: &[u8], at: usize, o: Opened, used: Used, words: &mut [u64]) -> Visit
-    requires { ⌜ Ready (now words) used × (used .records < 64) × (at ≤ length (now text)) ⌝ }
-    ensures { λ r. ⌜ VisitsBody aDosage 3 DosageRows (now (text .entry)) at o used (now (words .entry)) r (now (words .exit)) ⌝ }
-    ensures { λ r. ⌜ Kept 1 (now (words .entry)) used r (now (words .exit)) ⌝ }
+fn range(text: &[u8], at: usize, o: Object, terms: Terms, used: Used, words: &mut [u64]) -> Visit
+    requires { ⌜ Ready terms (now words) used × (used .records < 64) × (at ≤ length (now text)) ⌝ }
+    ensures { λ r. ⌜ VisitsTyped terms aDosage 3 DosageRows (now (text .entry)) at o used (now (words .entry)) r (now (words .exit)) ⌝ }
+    ensures { λ r. ⌜ Kept terms 1 (now (words .entry)) used r (now (words .exit)) ⌝ }
 {
+    let i = used.records;
     let slots = o.slots;
     if let Unknown::At(q) = names::unknown_name(text, at, o.members, &slots, &RANGE) {
         return Visit::Refused(5, q);
@@ -98,44 +106,52 @@ fn range(text: &[u8], at: usize, o: Opened, used: Used, words: &mut [u64]) -> Vi
     if max <= min {
         return Visit::Refused(12, at);
     }
-    rows::leaf(words, used, 14, min, max, 0, 0)
+    rows::store(words, i, terms::one_more(used), 14, min, max, 0, 0)
 }
 
-pub(crate) fn read_dosage(text: &[u8], at: usize, used: Used, words: &mut [u64]) -> Visit
-    requires { ⌜ Ready (now words) used × (at ≤ length (now text)) ⌝ }
-    ensures { λ r. ⌜ VisitsObject aDosage DosageRows (now (text .entry)) at used (now (words .entry)) r (now (words .exit)) ⌝ }
-    ensures { λ r. ⌜ Kept 1 (now (words .entry)) used r (now (words .exit)) ⌝ }
+pub(crate) fn read_dosage(
+    text: &[u8],
+    at: usize,
+    terms: Terms,
+    used: Used,
+    words: &mut [u64],
+) -> Visit
+    requires { ⌜ Ready terms (now words) used × (at ≤ length (now text)) ⌝ }
+    ensures { λ r. ⌜ VisitsObject terms aDosage DosageRows (now (text .entry)) at used (now (words .entry)) r (now (words .exit)) ⌝ }
+    ensures { λ r. ⌜ Kept terms 1 (now (words .entry)) used r (now (words .exit)) ⌝ }
 {
-    let o = opened::open_typed(text, at, 3);
-    if o.refused {
-        return Visit::Refused(o.number, o.place);
-    }
+    let o = opened::open_typed(text, at, 3, used);
+    let answer = o.answer;
+    let Opened::Is(kind, used) = answer else {
+        return opened::up(answer);
+    };
     if rows::is_full(used) {
         return Visit::Refused(15, at);
     }
-    let kind = o.kind;
+    let object = o.object;
     match kind {
-        1 => simple(text, at, o, used, words),
-        2 => from_to(text, at, o, used, words),
-        _ => range(text, at, o, used, words),
+        1 => simple(text, at, object, terms, used, words),
+        2 => from_to(text, at, object, terms, used, words),
+        _ => range(text, at, object, terms, used, words),
     }
 }
 
-// The dosage at v in the object at `brace`, whose own record comes before it.
+// The dosage that must stand at v in the object at `brace`.
 pub(crate) fn read_below(
     text: &[u8],
     brace: usize,
     v: usize,
+    terms: Terms,
     used: Used,
     words: &mut [u64],
 ) -> Visit
-    requires { ⌜ Ready (now words) used × (used .records < 64) × (brace ≤ length (now text)) ⌝ }
-    ensures { λ r. ⌜ VisitsNeeded aDosage DosageRows (now (text .entry)) brace v (more used) (now (words .entry)) r (now (words .exit)) ⌝ }
-    ensures { λ r. ⌜ Kept 1 (now (words .entry)) (more used) r (now (words .exit)) ⌝ }
+    requires { ⌜ Ready terms (now words) used × (brace ≤ length (now text)) ⌝ }
+    ensures { λ r. ⌜ VisitsNeeded terms aDosage DosageRows (now (text .entry)) brace v used (now (words .entry)) r (now (words .exit)) ⌝ }
+    ensures { λ r. ⌜ Kept terms 1 (now (words .entry)) used r (now (words .exit)) ⌝ }
 {
     let f = field::object_field(text, brace, v);
     let Found::At(at) = f else {
         return up_found(f);
     };
-    read_dosage(text, at, rows::one_more(used), words)
+    read_dosage(text, at, terms, used, words)
 }

@@ -19,7 +19,7 @@ use Rattle.document.specs.Posology as P
 use Rattle.document.specs.Date.{then, dateOf, timeOf}
 use Rattle.document.specs.Schema as S
 use Rattle.document.specs.Table.{dateCell}
-use Rattle.document.specs.Visit.{Left, Outcome, done, refuse, guard, present, orRefused, isEmpty}
+use Rattle.document.specs.Visit.{State, Outcome, done, refuse, guard, present, orRefused, isEmpty}
 use Rattle.document.specs.declared.table.Date.{Date as Cell}
 use Rattle.fields.specs.Fields.{Reads, ReadsTime, Dated, ReadsDate}
 use Rattle.fields.specs.Dates.{IsDate, IsTime}
@@ -106,15 +106,15 @@ module _ {ds after : List ℕ} {n : ℕ} (q : Lies ds after 25 n) where
     time-is-not brace v r h e = let k : IsTime ds T.Not = rw (q .bytes, e) at h in rw (filled, k)
 
 -- In a field.
-pub absent-date : (text : List ℕ) (v : ℕ) (o : Outcome (Option P.Date)) (l : Left) → o ≡ done none l → Dated o l (dateCell none)
+pub absent-date : (text : List ℕ) (v : ℕ) (o : Outcome (Option P.Date)) (l : State) → o ≡ done none l → Dated o l (dateCell none)
 absent-date text v o l e = record { value = none; outcome = e; cell = refl }
 
-given-date : (s : Place) (l : Left) (o : Option P.Date) (b : Bool) (x : Option P.Date) → cond b (some none) (then x λ y. some (some y)) ≡ some o → cond b (done none l) (present (orRefused 13 s l x)) ≡ done o l
+given-date : (s : Place) (l : State) (o : Option P.Date) (b : Bool) (x : Option P.Date) → cond b (some none) (then x λ y. some (some y)) ≡ some o → cond b (done none l) (present (orRefused 13 s l x)) ≡ done o l
 given-date s l o true x e = cc
 given-date s l o false none e = let z : _≡_ {A = ℕ} 0 1 = cc in absurd (omega arith)
 given-date s l o false (some y) e = cc
 
-refused-date : (s : Place) (l : Left) (b : Bool) (x : Option P.Date) → cond b (some none) (then x λ y. some (some y)) ≡ none → cond b (done none l) (present (orRefused 13 s l x)) ≡ refuse 13 s
+refused-date : (s : Place) (l : State) (b : Bool) (x : Option P.Date) → cond b (some none) (then x λ y. some (some y)) ≡ none → cond b (done none l) (present (orRefused 13 s l x)) ≡ refuse 13 s
 refused-date s l true x e = let z : _≡_ {A = ℕ} 0 1 = cc in absurd (omega arith)
 refused-date s l false none e = refl
 refused-date s l false (some y) e = let z : _≡_ {A = ℕ} 0 1 = cc in absurd (omega arith)

@@ -1,4 +1,6 @@
--- What the proofs of several functions use.
+-- What the proofs of several functions use, and what those of the crates above cite: the elements of a list, and refusals.
+pub mod Elements
+pub mod Refusals
 mod ValueKinds
 mod Values
 mod DateLaws
@@ -6,4 +8,5 @@ mod DateLengths
 mod DateFields
 mod DayLaws
 mod DayElements
+mod Fours
 mod Held

@@ -1,12 +1,12 @@
 -- What reading a value gives, by the kind that the code found at its place.
-use Prim.Native.Nat.{ℕ, _<_, _≤_}
-use mathlib.Core.Path.{_≡_, refl, sym, ap, _∙_}
+use Prim.Native.Nat.{ℕ, _-_, _<_, _≤_}
+use mathlib.Core.Path.{_≡_, refl, sym, ap, _∙_, subst}
 use mathlib.Core.List.{List, _∷_}
 use mathlib.Core.Bool.{Bool, true, false, cond, not, false≢true, true≢false}
 use mathlib.Core.Option.{Option, none, some, Option·getD}
 use lib.ListN.{length, drop}
 use lib.Dec.{ltb}
-use borrow.Author.Tests.{ltb-true, ltb-false, le-leb, lt-leb, not-true, not-false}
+use borrow.Author.Tests.{ltb-true, ltb-false, not-true, not-false}
 use native.Mathlib.Omega.{arith}
 use Rattle.json.specs.Tree.{Place, Tree, object, list, string, number, bool, null}
 use Rattle.json.specs.Grammar.{Value, anEmptyObject, anObject, anEmptyList, aList, aString, aNumber, aTrue, aFalse, aNull}
@@ -23,13 +23,19 @@ use Rattle.spelling.proofs.Moved.{number-written, string-decoded}
 use Rattle.document.specs.Lookup.{Found, one}
 use Rattle.document.specs.Schema as S
 use Rattle.document.specs.Schema.{Shape, NumberShape, integer, decimal, StringShape, ListShape, Family, OfFamily}
-use Rattle.document.specs.Visit.{Value as Waiting, Left, Outcome, done, refuse, guard, present, valueOf, needed, optional, whole, millionths, chars, emptyFor, isEmpty}
+use Rattle.document.specs.Visit.{Value as Waiting, State, Outcome, done, refuse, guard, laid, present, valueOf, needed, optional, whole, millionths, chars, emptyFor, isEmpty}
 use Rattle.document.specs.At.{At, Slot, empty, filled}
+use Rattle.document.specs.Told.{Tells, longer}
+use Rattle.document.specs.declared.terms.Terms.{Terms}
+use Rattle.document.specs.declared.terms.Used.{Used}
 use Rattle.document.proofs.Strings.{empty-of-length, some-of-length}
-use Rattle.fields.specs.Fields.{Refuses, Reads, ReadsAt, ReadsNeeded, ReadsGiven, ReadsOptional, ReadsFlag, flagNumber, Child, FindsObject, ObjectAt, ObjectNeeded, Listing, ListNeeded, ReadsText, Perhaps, ReadsOptionalText}
+use Rattle.document.proofs.Taken.{has-room, no-room, tells-laid}
+use Rattle.fields.specs.Fields.{Refuses, Reads, ReadsAt, ReadsNeeded, Counts, itself, CountsAt, CountsNeeded, CountsOptional, ReadsGiven, ReadsFlag, flagNumber, Child, FindsObject, ObjectAt, ObjectNeeded, Listing, FindsList, ListNeeded, Words, ReadsText, ReadsOptionalText}
 use Rattle.fields.specs.Reading.{wholeAt, millionthsAt, roomed, isObject, isArray, isText, isNumber, isNull, flagAt}
 use Rattle.fields.specs.declared.field.Field.{Field}
 use Rattle.fields.specs.declared.field.Field.the-variants as F
+use Rattle.fields.specs.declared.field.Counted.{Counted}
+use Rattle.fields.specs.declared.field.Counted.the-variants as C
 use Rattle.fields.specs.declared.field.Worded.{Worded}
 use Rattle.fields.specs.declared.field.Worded.the-variants as W
 use Rattle.fields.specs.declared.field.Found.the-variants as A
@@ -67,7 +73,7 @@ no-string-absent (bool p b) s f e = refl
 no-string-absent (null p) s f e = absurd (true≢false e)
 
 -- The wrong kind.
-not-number : (t : Tree) (n : NumberShape) (l : Left) → isNumber (kind t) ≡ false → (valueOf t) .read (S.aNumber n) l ≡ refuse 4 (place t)
+not-number : (t : Tree) (n : NumberShape) (l : State) → isNumber (kind t) ≡ false → (valueOf t) .read (S.aNumber n) l ≡ refuse 4 (place t)
 unfolding valueOf
 not-number (object p ms) n l e = refl
 not-number (list p es) n l e = refl
@@ -76,7 +82,7 @@ not-number (number p ds) n l e = absurd (true≢false e)
 not-number (bool p b) n l e = refl
 not-number (null p) n l e = refl
 
-not-text : (t : Tree) (s : StringShape) (l : Left) → isText (kind t) ≡ false → (valueOf t) .read (S.aString s) l ≡ refuse 4 (place t)
+not-text : (t : Tree) (s : StringShape) (l : State) → isText (kind t) ≡ false → (valueOf t) .read (S.aString s) l ≡ refuse 4 (place t)
 unfolding valueOf
 not-text (object p ms) n l e = refl
 not-text (list p es) n l e = refl
@@ -85,7 +91,7 @@ not-text (number p ds) n l e = refl
 not-text (bool p b) n l e = refl
 not-text (null p) n l e = refl
 
-not-object : (t : Tree) (f : Family) (l : Left) → isObject (kind t) ≡ false → (valueOf t) .read (S.anObject f) l ≡ refuse 4 (place t)
+not-object : (t : Tree) (f : Family) (l : State) → isObject (kind t) ≡ false → (valueOf t) .read (S.anObject f) l ≡ refuse 4 (place t)
 unfolding valueOf
 not-object (object p ms) n l e = absurd (true≢false e)
 not-object (list p es) n l e = refl
@@ -94,7 +100,7 @@ not-object (number p ds) n l e = refl
 not-object (bool p b) n l e = refl
 not-object (null p) n l e = refl
 
-not-list : (t : Tree) (s : ListShape) (l : Left) → isArray (kind t) ≡ false → (valueOf t) .read (S.aList s) l ≡ refuse 4 (place t)
+not-list : (t : Tree) (s : ListShape) (l : State) → isArray (kind t) ≡ false → (valueOf t) .read (S.aList s) l ≡ refuse 4 (place t)
 unfolding valueOf
 not-list (object p ms) n l e = refl
 not-list (list p es) n l e = absurd (true≢false e)
@@ -104,7 +110,7 @@ not-list (bool p b) n l e = refl
 not-list (null p) n l e = refl
 
 -- The right kind.
-integer-read : {t : Tree} {s r : List ℕ} (lo hi : ℕ) (l : Left) → Value t s r → isNumber (kindOf s) ≡ true → (valueOf t) .read (S.aNumber (integer lo hi)) l ≡ whole s l (integerIn lo hi (written s))
+integer-read : {t : Tree} {s r : List ℕ} (lo hi : ℕ) (l : State) → Value t s r → isNumber (kindOf s) ≡ true → (valueOf t) .read (S.aNumber (integer lo hi)) l ≡ whole s l (integerIn lo hi (written s))
 unfolding valueOf kindOf
 integer-read lo hi l (anEmptyObject b) e = absurd (false≢true e)
 integer-read lo hi l (anObject b n) e = absurd (false≢true e)
@@ -116,7 +122,7 @@ integer-read lo hi l aTrue e = absurd (false≢true e)
 integer-read lo hi l aFalse e = absurd (false≢true e)
 integer-read lo hi l aNull e = absurd (false≢true e)
 
-decimal-read : {t : Tree} {s r : List ℕ} (lo : ℕ) (l : Left) → Value t s r → isNumber (kindOf s) ≡ true → (valueOf t) .read (S.aNumber (decimal lo)) l ≡ millionths s l (decimalFrom lo (written s))
+decimal-read : {t : Tree} {s r : List ℕ} (lo : ℕ) (l : State) → Value t s r → isNumber (kindOf s) ≡ true → (valueOf t) .read (S.aNumber (decimal lo)) l ≡ millionths s l (decimalFrom lo (written s))
 unfolding valueOf kindOf
 decimal-read lo l (anEmptyObject b) e = absurd (false≢true e)
 decimal-read lo l (anObject b n) e = absurd (false≢true e)
@@ -130,7 +136,7 @@ decimal-read lo l aNull e = absurd (false≢true e)
 
 -- A string: what is read of it, and whether it is absent.
 pub record Spoken (k : StringShape) (t : Tree) (s : List ℕ) : Type 0 where
-  pub reads : (l : Left) → (valueOf t) .read (S.aString k) l ≡ chars k s (decoded s) l
+  pub reads : (l : State) → (valueOf t) .read (S.aString k) l ≡ chars k s (decoded s) l
   pub absent : (valueOf t) .absent (S.aString k) ≡ isEmpty (decoded s)
 
 pub spoken : {t : Tree} {s r : List ℕ} (k : StringShape) → Value t s r → isText (kindOf s) ≡ true → Spoken k t s
@@ -157,15 +163,19 @@ module _ (text : List ℕ) (v : ℕ) where
   pub number-refused : (n : NumberShape) (is : Bool) → is ≡ isNumber (kindOf (drop v text)) → not is ≡ true → ReadsAt text v n (F.Refused 4 v)
   number-refused n is k e t a l = wrong a (not-number t n l (ap isNumber (sym (kind-at a)) ∙ sym k ∙ not-true is e))
 
-  whole-reads : (l : Left) → v < length text → (i : Integer) → Reads text (whole (drop v text) l i) l (wholeAt v i)
-  whole-reads l h (I.Whole n exact) = refl
-  whole-reads l h I.NotCarried = record { outcome = refl; inside = omega arith }
-  whole-reads l h I.Outside = record { outcome = refl; inside = omega arith }
+  pub number-not-counted : (n : NumberShape) (u : Used) (is : Bool) → is ≡ isNumber (kindOf (drop v text)) → not is ≡ true → CountsAt text v n u (C.Refused 4 v)
+  number-not-counted n u is k e t a terms l told = number-refused n is k e t a l
 
-  pub integer-reads : (lo hi : ℕ) (is : Bool) (r : Field) → is ≡ isNumber (kindOf (drop v text)) → not is ≡ false → r ≡ wholeAt v (integerIn lo hi (written (drop v text))) → ReadsAt text v (integer lo hi) r
-  integer-reads lo hi is r k e q t a l = rw (q, integer-read lo hi l (a .spelled) (sym k ∙ not-false is e)) (whole-reads l (a .inside) (integerIn lo hi (written (drop v text))))
+  -- The one place that says what an integer notes.
+  whole-counts : {terms : Terms} {u : Used} {l : State} → Tells terms text u l → v < length text → (i : Integer) → Counts terms text (whole (drop v text) l i) itself (wholeAt v u i)
+  whole-counts {l = l} told h (I.Whole n exact) = record { value = n; state = l; outcome = refl; tells = told; holds = refl }
+  whole-counts told h I.NotCarried = record { outcome = refl; inside = omega arith }
+  whole-counts told h I.Outside = record { outcome = refl; inside = omega arith }
 
-  millionths-reads : (l : Left) → v < length text → (i : Decimal) → Reads text (millionths (drop v text) l i) l (millionthsAt v i)
+  pub integer-counts : (lo hi : ℕ) (u : Used) (is : Bool) (r : Counted) → is ≡ isNumber (kindOf (drop v text)) → not is ≡ false → r ≡ wholeAt v u (integerIn lo hi (written (drop v text))) → CountsAt text v (integer lo hi) u r
+  integer-counts lo hi u is r k e q t a terms l told = rw (q, integer-read lo hi l (a .spelled) (sym k ∙ not-false is e)) (whole-counts told (a .inside) (integerIn lo hi (written (drop v text))))
+
+  millionths-reads : (l : State) → v < length text → (i : Decimal) → Reads text (millionths (drop v text) l i) l (millionthsAt v i)
   millionths-reads l h (M.Millionths n) = refl
   millionths-reads l h M.NotCarried = record { outcome = refl; inside = omega arith }
   millionths-reads l h M.Outside = record { outcome = refl; inside = omega arith }
@@ -203,22 +213,22 @@ module _ (text : List ℕ) (v : ℕ) where
 
 -- A slot with no value, or with null: the member is missing, or absent.
 module _ (text : List ℕ) where
-  pub missing : (v brace : ℕ) (s : Shape) (f : Found Waiting) → brace ≤ length text → Slot text v f → v ≡ 0 → (l : Left) → Refuses text (needed s (drop brace text) f l) 7 brace
+  pub missing : (v brace : ℕ) (s : Shape) (f : Found Waiting) → brace ≤ length text → Slot text v f → v ≡ 0 → (l : State) → Refuses text (needed s (drop brace text) f l) 7 brace
   missing v brace s f h empty e l = record { outcome = refl; inside = h }
   missing v brace s f h (filled n a) e l = absurd (omega arith)
 
-  pub absent : (v : ℕ) (s : Shape) (f : Found Waiting) → Slot text v f → v ≡ 0 → (p : Place) (l : Left) → optional s p f l ≡ done none l
+  pub absent : (v : ℕ) (s : Shape) (f : Found Waiting) → Slot text v f → v ≡ 0 → (p : Place) (l : State) → optional s p f l ≡ done none l
   absent v s f empty e p l = refl
   absent v s f (filled n a) e p l = absurd (omega arith)
 
   null-here : (v : ℕ) {t : Tree} → At text v t → isNull (kindOf (drop v text)) ≡ true → (s : Shape) → (valueOf t) .absent s ≡ true
   null-here v {t} a e s = null-absent t s (ap isNull (sym (kind-at text v a)) ∙ e)
 
-  pub missing-null : (v brace : ℕ) (s : Shape) (f : Found Waiting) → brace ≤ length text → Slot text v f → isNull (kindOf (drop v text)) ≡ true → (l : Left) → Refuses text (needed s (drop brace text) f l) 7 brace
+  pub missing-null : (v brace : ℕ) (s : Shape) (f : Found Waiting) → brace ≤ length text → Slot text v f → isNull (kindOf (drop v text)) ≡ true → (l : State) → Refuses text (needed s (drop brace text) f l) 7 brace
   missing-null v brace s f h empty e l = record { outcome = refl; inside = h }
   missing-null v brace s f h (filled n a) e l = record { outcome = rw (null-here v a e s); inside = h }
 
-  pub absent-null : (v : ℕ) (s : Shape) (f : Found Waiting) → Slot text v f → isNull (kindOf (drop v text)) ≡ true → (p : Place) (l : Left) → optional s p f l ≡ done none l
+  pub absent-null : (v : ℕ) (s : Shape) (f : Found Waiting) → Slot text v f → isNull (kindOf (drop v text)) ≡ true → (p : Place) (l : State) → optional s p f l ≡ done none l
   absent-null v s f empty e p l = refl
   absent-null v s f (filled n a) e p l = rw (null-here v a e s)
 
@@ -227,8 +237,8 @@ pub record There (text : List ℕ) (v : ℕ) (f : Found Waiting) : Type 0 where
   pub tree : Tree
   pub stands : At text v tree
   pub found : f ≡ one (valueOf tree)
-  pub reads : (s : Shape) → ((cs : List ℕ) → emptyFor cs s ≡ false) → (p : Place) (l : Left) → needed s p f l ≡ (valueOf tree) .read s l
-  pub given : (s : Shape) → ((cs : List ℕ) → emptyFor cs s ≡ false) → (p : Place) (l : Left) → optional s p f l ≡ present ((valueOf tree) .read s l)
+  pub reads : (s : Shape) → ((cs : List ℕ) → emptyFor cs s ≡ false) → (p : Place) (l : State) → needed s p f l ≡ (valueOf tree) .read s l
+  pub given : (s : Shape) → ((cs : List ℕ) → emptyFor cs s ≡ false) → (p : Place) (l : State) → optional s p f l ≡ present ((valueOf tree) .read s l)
 
 pub there : (text : List ℕ) (v : ℕ) (f : Found Waiting) → Slot text v f → (v ≡ 0 → ⊥) → isNull (kindOf (drop v text)) ≡ false → There text v f
 there text v f empty z e = absurd (z refl)
@@ -237,11 +247,14 @@ there text v f (filled {t = t} n a) z e =
     record { tree = t; stands = a; found = refl; reads = λ s q p l. rw (h s q); given = λ s q p l. rw (h s q) }
 
 -- The fields, from what the code learnt in the order in which it looks.
-given-number : (text : List ℕ) (absent : ℕ) (o : Outcome ℕ) (l : Left) (r : Field) → Reads text o l r → ReadsGiven text (present o) l (λ x. Option·getD x absent) r
-given-number text absent o l (F.Is n) h = record { value = some n; outcome = rw h; counts = refl }
-given-number text absent o l (F.Refused n p) h = record { outcome = rw (h .outcome); inside = h .inside }
+given-number : (text : List ℕ) (absent : ℕ) (terms : Terms) (o : Outcome ℕ) (r : Counted) → Counts terms text o itself r → Counts terms text (present o) (λ x. Option·getD x absent) r
+given-number text absent terms o (C.Is n v) h = record { value = some (h .value); state = h .state; outcome = rw (h .outcome); tells = h .tells; holds = h .holds }
+given-number text absent terms o (C.Refused n p) h = record { outcome = rw (h .outcome); inside = h .inside }
 
-finds-object : (text : List ℕ) (r : FoundAt) (a b : (f : Family) → Left → Outcome (OfFamily f)) → ((f : Family) (l : Left) → b f l ≡ a f l) → FindsObject text a r → FindsObject text b r
+pub absent-counts : {terms : Terms} {text : List ℕ} {u : Used} {l : State} {o : Outcome (Option ℕ)} (absent : ℕ) → Tells terms text u l → o ≡ done none l → Counts terms text o (λ x. Option·getD x absent) (C.Is absent u)
+absent-counts {l = l} absent told e = record { value = none; state = l; outcome = e; tells = told; holds = refl }
+
+finds-object : (text : List ℕ) (r : FoundAt) (a b : (f : Family) → State → Outcome (OfFamily f)) → ((f : Family) (l : State) → b f l ≡ a f l) → FindsObject text a r → FindsObject text b r
 finds-object text (A.At at) a b e h = record { place = h .place; inner = h .inner; stands = h .stands; outcome = λ f l. e f l ∙ h .outcome f l }
 finds-object text (A.Refused n p) a b e h = λ f l. record { outcome = e f l ∙ h f l .outcome; inside = h f l .inside }
 
@@ -251,10 +264,15 @@ module _ (text : List ℕ) (v : ℕ) (z : v ≡ 0 → ⊥) (e : isNull (kindOf (
       let q = there text v f slot z e in
       rw (q .reads (S.aNumber n) (λ cs. refl) (drop brace text) l) (h (q .tree) (q .stands) l)
 
-  pub number-given : (n : NumberShape) (absent : ℕ) (r : Field) → ReadsAt text v n r → ReadsOptional text v n absent r
-  number-given n absent r h f slot p l =
+  pub count-needed : (n : NumberShape) (brace : ℕ) (u : Used) (r : Counted) → CountsAt text v n u r → CountsNeeded text brace v n u r
+  count-needed n brace u r h f slot terms l told =
       let q = there text v f slot z e in
-      rw (q .given (S.aNumber n) (λ cs. refl) p l) (given-number text absent ((valueOf (q .tree)) .read (S.aNumber n) l) l r (h (q .tree) (q .stands) l))
+      rw (q .reads (S.aNumber n) (λ cs. refl) (drop brace text) l) (h (q .tree) (q .stands) terms l told)
+
+  pub number-given : (n : NumberShape) (absent : ℕ) (u : Used) (r : Counted) → CountsAt text v n u r → CountsOptional text v n absent u r
+  number-given n absent u r h f slot p terms l told =
+      let q = there text v f slot z e in
+      rw (q .given (S.aNumber n) (λ cs. refl) p l) (given-number text absent terms ((valueOf (q .tree)) .read (S.aNumber n) l) r (h (q .tree) (q .stands) terms l told))
 
   pub object-needed : (brace : ℕ) (r : FoundAt) → ObjectAt text v r → ObjectNeeded text brace v r
   object-needed brace r h f slot =
@@ -273,8 +291,16 @@ module _ (text : List ℕ) (v : ℕ) (z : v ≡ 0 → ⊥) (e : isNull (kindOf (
       let h = listing text v (q .tree) (q .stands) (ap isArray (sym (kind-at text v (q .stands))) ∙ k) in
       record { place = h .place; inner = h .inner; stands = h .stands; outcome = λ s l. q .reads (S.aList s) (λ cs. refl) (drop brace text) l ∙ h .outcome s l }
 
+-- A list that was asked for.
+module _ (text : List ℕ) (brace v : ℕ) (found : FoundAt) (h : ListNeeded text brace v found) (f : Found Waiting) (slot : Slot text v f) where
+  pub list-is : (at : ℕ) → found ≡ A.At at → Listing text at (λ s l. needed (S.aList s) (drop brace text) f l)
+  list-is at e = subst (λ (x : FoundAt). FindsList text (λ s l. needed (S.aList s) (drop brace text) f l) x) e (h f slot)
+
+  pub list-is-not : (n p : ℕ) → found ≡ A.Refused n p → (s : ListShape) (l : State) → Refuses text (needed (S.aList s) (drop brace text) f l) n p
+  list-is-not n p e = subst (λ (x : FoundAt). FindsList text (λ s l. needed (S.aList s) (drop brace text) f l) x) e (h f slot)
+
 -- Marks.
-flag-tree : (text : List ℕ) (v : ℕ) (t : Tree) (l : Left) → At text v t → ReadsGiven text (cond ((valueOf t) .absent S.aFlag) (done none l) (present ((valueOf t) .read S.aFlag l))) l flagNumber (flagAt v (kind t))
+flag-tree : (text : List ℕ) (v : ℕ) (t : Tree) (l : State) → At text v t → ReadsGiven text (cond ((valueOf t) .absent S.aFlag) (done none l) (present ((valueOf t) .read S.aFlag l))) l flagNumber (flagAt v (kind t))
 unfolding valueOf
 flag-tree text v (object p ms) l a = wrong text v a refl
 flag-tree text v (list p es) l a = wrong text v a refl
@@ -294,8 +320,8 @@ flag-reads text v k z e f (filled {t = t} n a) p l = rw (← e, kind-at text v a
 -- Strings.
 pub record Said (text : List ℕ) (v : ℕ) (k : StringShape) (f : Found Waiting) : Type 0 where
   pub inside : v < length text
-  pub reads : (p : Place) (l : Left) → needed (S.aString k) p f l ≡ guard (not (isEmpty (decoded (drop v text)))) 7 p (chars k (drop v text) (decoded (drop v text)) l)
-  pub given : (p : Place) (l : Left) → optional (S.aString k) p f l ≡ cond (isEmpty (decoded (drop v text))) (done none l) (present (chars k (drop v text) (decoded (drop v text)) l))
+  pub reads : (p : Place) (l : State) → needed (S.aString k) p f l ≡ guard (not (isEmpty (decoded (drop v text)))) 7 p (chars k (drop v text) (decoded (drop v text)) l)
+  pub given : (p : Place) (l : State) → optional (S.aString k) p f l ≡ cond (isEmpty (decoded (drop v text))) (done none l) (present (chars k (drop v text) (decoded (drop v text)) l))
 
 module _ (text : List ℕ) where
   pub said : (v : ℕ) (k : StringShape) (f : Found Waiting) → Slot text v f → (v ≡ 0 → ⊥) → isText (kindOf (drop v text)) ≡ true → Said text v k f
@@ -304,68 +330,70 @@ module _ (text : List ℕ) where
       let s = spoken k (a .spelled) e in
       record { inside = a .inside; reads = λ p l. rw (s .absent, s .reads l); given = λ p l. rw (s .absent, s .reads l) }
 
-  pub string-needed-refused : (v brace : ℕ) (k : StringShape) (f : Found Waiting) → Slot text v f → (v ≡ 0 → ⊥) → isNull (kindOf (drop v text)) ≡ false → isText (kindOf (drop v text)) ≡ false → (l : Left) → Refuses text (needed (S.aString k) (drop brace text) f l) 4 v
+  pub string-needed-refused : (v brace : ℕ) (k : StringShape) (f : Found Waiting) → Slot text v f → (v ≡ 0 → ⊥) → isNull (kindOf (drop v text)) ≡ false → isText (kindOf (drop v text)) ≡ false → (l : State) → Refuses text (needed (S.aString k) (drop brace text) f l) 4 v
   string-needed-refused v brace k f empty z e i l = absurd (z refl)
   string-needed-refused v brace k f (filled {t = t} n a) z e i l =
       let j = ap isText (sym (kind-at text v a)) ∙ i in
       wrong text v a (rw (no-string-absent t (S.aString k) j (ap isNull (sym (kind-at text v a)) ∙ e)) (not-text t k l j))
 
-  pub string-given-refused : (v : ℕ) (k : StringShape) (f : Found Waiting) → Slot text v f → (v ≡ 0 → ⊥) → isNull (kindOf (drop v text)) ≡ false → isText (kindOf (drop v text)) ≡ false → (p : Place) (l : Left) → Refuses text (optional (S.aString k) p f l) 4 v
+  pub string-given-refused : (v : ℕ) (k : StringShape) (f : Found Waiting) → Slot text v f → (v ≡ 0 → ⊥) → isNull (kindOf (drop v text)) ≡ false → isText (kindOf (drop v text)) ≡ false → (p : Place) (l : State) → Refuses text (optional (S.aString k) p f l) 4 v
   string-given-refused v k f empty z e i p l = absurd (z refl)
   string-given-refused v k f (filled {t = t} n a) z e i p l =
       let j = ap isText (sym (kind-at text v a)) ∙ i in
       wrong text v a (rw (no-string-absent t (S.aString k) j (ap isNull (sym (kind-at text v a)) ∙ e), not-text t k l j))
 
-pub absent-text : (text : List ℕ) (v room : ℕ) (o : Left → Outcome (Option (List ℕ))) → ((l : Left) → o l ≡ done none l) → Perhaps text o room 0 0
-absent-text text v room o e = record { absent = λ h. (refl, e); outcome = λ h. absurd (omega arith); size = λ h. absurd (omega arith); fits = omega arith }
+pub absent-text : {terms : Terms} {text : List ℕ} {u : Used} {l : State} {o : Outcome (Option (List ℕ))} → Tells terms text u l → o ≡ done none l → Words terms text o (λ x. x) (W.Is 0 0 u)
+absent-text {l = l} told e = record { value = none; state = l; outcome = e; tells = told; holds = (refl, refl) }
 
 -- A text of n decoded bytes.
-module _ (text : List ℕ) (v room n : ℕ) (z : v ≡ 0 → ⊥) (i : isText (kindOf (drop v text)) ≡ true) (q : n ≡ length (decoded (drop v text))) where
-  pub empty-text : (brace : ℕ) → brace ≤ length text → n ≡ 0 → ReadsText text brace v room (W.Refused 7 brace)
-  empty-text brace h e f slot l r =
+module _ (text : List ℕ) (v n : ℕ) (terms : Terms) (u : Used) (z : v ≡ 0 → ⊥) (i : isText (kindOf (drop v text)) ≡ true) (q : n ≡ length (decoded (drop v text))) where
+  pub empty-text : (brace : ℕ) → brace ≤ length text → n ≡ 0 → ReadsText terms text brace v u (W.Refused 7 brace)
+  empty-text brace h e f slot l told =
       record { outcome = said text v S.text f slot z i .reads (drop brace text) l ∙ rw (empty-of-length (decoded (drop v text)) (sym q ∙ e)); inside = h }
 
-  pub empty-given : n ≡ 0 → ReadsOptionalText text v room (W.Is 0 0)
-  empty-given e f slot p = absent-text text v room (λ l. optional (S.aString S.text) p f l) λ l. said text v S.text f slot z i .given p l ∙ rw (empty-of-length (decoded (drop v text)) (sym q ∙ e))
+  pub empty-given : n ≡ 0 → ReadsOptionalText terms text v u (W.Is 0 0 u)
+  empty-given e f slot p l told = absent-text told (said text v S.text f slot z i .given p l ∙ rw (empty-of-length (decoded (drop v text)) (sym q ∙ e)))
 
   module _ (m : n ≡ 0 → ⊥) where
     not-empty : isEmpty (decoded (drop v text)) ≡ false
     not-empty = some-of-length (decoded (drop v text)) (λ h. m (q ∙ h))
 
-    pub text-needed : (brace : ℕ) (r : Worded) → r ≡ roomed v n room → ReadsText text brace v room r
-    text-needed brace r e = rw e (go (ltb room n) refl)
+    pub text-needed : (brace : ℕ) (r : Worded) → r ≡ roomed terms v n u → ReadsText terms text brace v u r
+    text-needed brace r e = rw e (go (ltb (terms .room - u .text) n) refl)
       where
-        go : (t : Bool) → ltb room n ≡ t → ReadsText text brace v room (cond t (W.Refused 16 v) (W.Is v n))
-        go true h = λ f slot l s.
+        go : (b : Bool) → ltb (terms .room - u .text) n ≡ b → ReadsText terms text brace v u (cond b (W.Refused 16 v) (W.Is v n (longer n u)))
+        go true h = λ f slot l told.
             let d = said text v S.text f slot z i in
             record {
-              outcome = d .reads (drop brace text) l ∙ rw (not-empty, ← q, s, lt-leb n room (ltb-true room n h));
+              outcome = d .reads (drop brace text) l ∙ rw (not-empty, ← q, no-room told n (ltb-true (terms .room - u .text) n h));
               inside = omega (arith, d .inside);
             }
-        go false h = λ f slot.
-            let d = said text v S.text f slot z i in
+        go false h = λ f slot l told.
+            let fits = ltb-false (terms .room - u .text) n h in
             record {
-              outcome = λ l s. d .reads (drop brace text) l ∙ rw (not-empty, ← q, s, le-leb n room (ltb-false room n h));
-              size = sym q;
-              some = omega (arith, m);
-              fits = ltb-false room n h;
+              value = decoded (drop v text);
+              state = laid n l;
+              outcome = said text v S.text f slot z i .reads (drop brace text) l ∙ rw (not-empty, ← q, has-room told n fits);
+              tells = tells-laid told n fits;
+              holds = (refl, sym q, omega (arith, m));
             }
 
-    pub text-given : (r : Worded) → r ≡ roomed v n room → ReadsOptionalText text v room r
-    text-given r e = rw e (go (ltb room n) refl)
+    pub text-given : (r : Worded) → r ≡ roomed terms v n u → ReadsOptionalText terms text v u r
+    text-given r e = rw e (go (ltb (terms .room - u .text) n) refl)
       where
-        go : (t : Bool) → ltb room n ≡ t → ReadsOptionalText text v room (cond t (W.Refused 16 v) (W.Is v n))
-        go true h = λ f slot p l s.
+        go : (b : Bool) → ltb (terms .room - u .text) n ≡ b → ReadsOptionalText terms text v u (cond b (W.Refused 16 v) (W.Is v n (longer n u)))
+        go true h = λ f slot p l told.
             let d = said text v S.text f slot z i in
             record {
-              outcome = d .given p l ∙ rw (not-empty, ← q, s, lt-leb n room (ltb-true room n h));
+              outcome = d .given p l ∙ rw (not-empty, ← q, no-room told n (ltb-true (terms .room - u .text) n h));
               inside = omega (arith, d .inside);
             }
-        go false h = λ f slot p.
-            let d = said text v S.text f slot z i in
+        go false h = λ f slot p l told.
+            let fits = ltb-false (terms .room - u .text) n h in
             record {
-              absent = λ x. absurd (m x);
-              outcome = λ x l s. d .given p l ∙ rw (not-empty, ← q, s, le-leb n room (ltb-false room n h));
-              size = λ x. sym q;
-              fits = ltb-false room n h;
+              value = some (decoded (drop v text));
+              state = laid n l;
+              outcome = said text v S.text f slot z i .given p l ∙ rw (not-empty, ← q, has-room told n fits);
+              tells = tells-laid told n fits;
+              holds = (refl, sym q, omega (arith, m));
             }

@@ -1,5 +1,5 @@
 -- What the parts of a field's code answer, each by what it was given.
-use Prim.Native.Nat.{ℕ}
+use Prim.Native.Nat.{ℕ, _-_}
 use mathlib.Core.Path.{_≡_}
 use mathlib.Core.List.{List}
 use mathlib.Core.Bool.{Bool, true, false, cond}
@@ -15,6 +15,11 @@ use Rattle.document.specs.Posology as P
 use Rattle.document.specs.Date.{then, dateOf}
 use Rattle.document.specs.Table.{dateCell}
 use Rattle.document.specs.Visit.{isEmpty}
+use Rattle.document.specs.Told.{longer}
+use Rattle.document.specs.declared.terms.Terms.{Terms}
+use Rattle.document.specs.declared.terms.Used.{Used}
+use Rattle.fields.specs.declared.field.Counted.{Counted}
+use Rattle.fields.specs.declared.field.Counted.the-variants as C
 use Rattle.fields.specs.declared.field.DateField.{DateField}
 use Rattle.fields.specs.declared.field.DateField.the-variants as D
 use Rattle.fields.specs.declared.field.Field.{Field}
@@ -23,10 +28,10 @@ use Rattle.fields.specs.declared.field.Worded.{Worded}
 use Rattle.fields.specs.declared.field.Worded.the-variants as W
 
 -- A number at the place v: 8, then 9.
-abbrev pub wholeAt : ℕ → Integer → Field
-wholeAt v (I.Whole n exact) = F.Is n
-wholeAt v I.NotCarried = F.Refused 8 v
-wholeAt v I.Outside = F.Refused 9 v
+abbrev pub wholeAt : ℕ → Used → Integer → Counted
+wholeAt v u (I.Whole n exact) = C.Is n u
+wholeAt v u I.NotCarried = C.Refused 8 v
+wholeAt v u I.Outside = C.Refused 9 v
 
 abbrev pub millionthsAt : ℕ → Decimal → Field
 millionthsAt v (M.Millionths n) = F.Is n
@@ -34,8 +39,8 @@ millionthsAt v M.NotCarried = F.Refused 8 v
 millionthsAt v M.Outside = F.Refused 9 v
 
 -- A string of n bytes, not empty, at the place v: 16.
-abbrev pub roomed : ℕ → ℕ → ℕ → Worded
-roomed v n room = cond (ltb room n) (W.Refused 16 v) (W.Is v n)
+abbrev pub roomed : Terms → ℕ → ℕ → Used → Worded
+roomed terms v n u = cond (ltb (terms .room - u .text) n) (W.Refused 16 v) (W.Is v n (longer n u))
 
 -- Whether a kind is the one that is asked for.
 abbrev pub isObject : Kind → Bool

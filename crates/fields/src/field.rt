@@ -2,6 +2,9 @@
 use crate::date;
 use crate::date::Dated;
 use document::table::Date;
+use document::terms;
+use document::terms::Terms;
+use document::terms::Used;
 use moving::Kind;
 use numbers::Decimal;
 use numbers::Integer;
@@ -15,7 +18,7 @@ ghost use Rattle.numbers.specs.Number.{integerIn, decimalFrom};
 ghost use Rattle.document.specs.Schema.{integer, decimal};
 ghost use Rattle.document.specs.Visit.{isEmpty};
 ghost use Rattle.document.specs.Date.{timeOf};
-ghost use Rattle.fields.specs.Fields.{ReadsAt, ReadsNeeded, ReadsOptional, ReadsFlag, ObjectAt, ObjectNeeded, ListNeeded, ReadsText, ReadsOptionalText, ReadsDate, ReadsTime, Inside, Within};
+ghost use Rattle.fields.specs.Fields.{ReadsAt, ReadsNeeded, CountsAt, CountsNeeded, CountsOptional, CountsStill, CountsWithin, ReadsFlag, ObjectAt, ObjectNeeded, ListNeeded, ReadsText, ReadsOptionalText, TakesText, ReadsDate, ReadsTime, Inside};
 ghost use Rattle.fields.specs.Reading.{wholeAt, millionthsAt, roomed, isObject, isArray, isText, isNumber, isNull, DateAt, timeAt};
 
 // A number, or the refusal with its place.
@@ -30,9 +33,15 @@ pub enum Found {
     Refused(u8, usize),
 }
 
-// A string's quote and its length in decoded bytes, both 0 where it is absent; or the refusal.
+// An integer, with what is taken behind it; or the refusal.
+pub enum Counted {
+    Is(u64, Used),
+    Refused(u8, usize),
+}
+
+// A string's quote and its length in decoded bytes, both 0 where it is absent, with what is taken behind it; or the refusal.
 pub enum Worded {
-    Is(usize, usize),
+    Is(usize, usize, Used),
     Refused(u8, usize),
 }
 
@@ -87,50 +96,69 @@ fn is_null(text: &[u8], v: usize) -> bool
     }
 }
 
-fn integer_read(text: &[u8], v: usize, least: u64, most: u64) -> Field
-    ensures { λ r. ⌜ r ≡ wholeAt v (integerIn least most (written (drop v (now (text .entry))))) ⌝ }
+fn integer_read(text: &[u8], v: usize, least: u64, most: u64, used: Used) -> Counted
+    ensures { λ r. ⌜ r ≡ wholeAt v used (integerIn least most (written (drop v (now (text .entry))))) ⌝ }
 {
     match numbers::integer_at(text, v, least, most) {
-        Integer::Whole(n, _) => Field::Is(n),
-        Integer::NotCarried => Field::Refused(8, v),
-        Integer::Outside => Field::Refused(9, v),
+        Integer::Whole(n, _) => Counted::Is(n, used),
+        Integer::NotCarried => Counted::Refused(8, v),
+        Integer::Outside => Counted::Refused(9, v),
     }
 }
 
 // An integer in a list, or a field that is there: 4, 8, 9.
-pub(crate) fn integer_value(text: &[u8], v: usize, least: u64, most: u64) -> Field
-    ensures { λ r. ⌜ ReadsAt (now (text .entry)) v (integer least most) r ⌝ }
+pub(crate) fn integer_value(text: &[u8], v: usize, least: u64, most: u64, used: Used) -> Counted
+    ensures { λ r. ⌜ CountsAt (now (text .entry)) v (integer least most) used r ⌝ }
+    ensures { λ r. ⌜ CountsStill used r ⌝ }
+    ensures { λ r. ⌜ CountsWithin least most r ⌝ }
 {
     if !is_number(text, v) {
-        return Field::Refused(4, v);
+        return Counted::Refused(4, v);
     }
-    integer_read(text, v, least, most)
+    integer_read(text, v, least, most, used)
 }
 
 // An integer that must be there: 7, then as any.
-pub fn integer_field(text: &[u8], brace: usize, v: usize, least: u64, most: u64) -> Field
-    ensures { λ r. ⌜ (brace ≤ length (now (text .entry)) → ReadsNeeded (now (text .entry)) brace v (integer least most) r) ⌝ }
+pub fn integer_field(
+    text: &[u8],
+    brace: usize,
+    v: usize,
+    least: u64,
+    most: u64,
+    used: Used,
+) -> Counted
+    ensures { λ r. ⌜ (brace ≤ length (now (text .entry)) → CountsNeeded (now (text .entry)) brace v (integer least most) used r) ⌝ }
+    ensures { λ r. ⌜ CountsStill used r ⌝ }
+    ensures { λ r. ⌜ CountsWithin least most r ⌝ }
 {
     if v == 0 {
-        return Field::Refused(7, brace);
+        return Counted::Refused(7, brace);
     }
     if is_null(text, v) {
-        return Field::Refused(7, brace);
+        return Counted::Refused(7, brace);
     }
-    integer_value(text, v, least, most)
+    integer_value(text, v, least, most, used)
 }
 
 // An integer that may be absent, and counts `absent` then.
-pub fn optional_integer(text: &[u8], v: usize, least: u64, most: u64, absent: u64) -> Field
-    ensures { λ r. ⌜ ReadsOptional (now (text .entry)) v (integer least most) absent r ⌝ }
+pub fn optional_integer(
+    text: &[u8],
+    v: usize,
+    least: u64,
+    most: u64,
+    absent: u64,
+    used: Used,
+) -> Counted
+    ensures { λ r. ⌜ CountsOptional (now (text .entry)) v (integer least most) absent used r ⌝ }
+    ensures { λ r. ⌜ CountsStill used r ⌝ }
 {
     if v == 0 {
-        return Field::Is(absent);
+        return Counted::Is(absent, used);
     }
     if is_null(text, v) {
-        return Field::Is(absent);
+        return Counted::Is(absent, used);
     }
-    integer_value(text, v, least, most)
+    integer_value(text, v, least, most, used)
 }
 
 fn decimal_read(text: &[u8], v: usize, least: u64) -> Field
@@ -225,19 +253,21 @@ pub fn list_field(text: &[u8], brace: usize, v: usize) -> Found
 }
 
 // What a string that is there and not empty comes to: 16.
-fn within_room(v: usize, n: usize, room: usize) -> Worded
-    ensures { λ r. ⌜ r ≡ roomed v n room ⌝ }
+fn within_room(v: usize, n: usize, terms: Terms, used: Used) -> Worded
+    ensures { λ r. ⌜ r ≡ roomed terms v n used ⌝ }
 {
-    if room < n {
+    if terms::room_left(terms, used) < n {
         return Worded::Refused(16, v);
     }
-    Worded::Is(v, n)
+    let mut behind = used;
+    behind.text = used.text + n;
+    Worded::Is(v, n, behind)
 }
 
 // A string that must be there: 7, 4, 16.
-pub fn text_field(text: &[u8], brace: usize, v: usize, room: usize) -> Worded
-    ensures { λ r. ⌜ (brace ≤ length (now (text .entry)) → ReadsText (now (text .entry)) brace v room r) ⌝ }
-    ensures { λ r. ⌜ Within room r ⌝ }
+pub fn text_field(text: &[u8], brace: usize, v: usize, terms: Terms, used: Used) -> Worded
+    ensures { λ r. ⌜ (brace ≤ length (now (text .entry)) → ReadsText terms (now (text .entry)) brace v used r) ⌝ }
+    ensures { λ r. ⌜ TakesText terms used r ⌝ }
 {
     if v == 0 {
         return Worded::Refused(7, brace);
@@ -252,28 +282,28 @@ pub fn text_field(text: &[u8], brace: usize, v: usize, room: usize) -> Worded
     if n == 0 {
         return Worded::Refused(7, brace);
     }
-    within_room(v, n, room)
+    within_room(v, n, terms, used)
 }
 
 // A string that may be absent: 4, 16.
-pub fn optional_text(text: &[u8], v: usize, room: usize) -> Worded
-    ensures { λ r. ⌜ ReadsOptionalText (now (text .entry)) v room r ⌝ }
-    ensures { λ r. ⌜ Within room r ⌝ }
+pub fn optional_text(text: &[u8], v: usize, terms: Terms, used: Used) -> Worded
+    ensures { λ r. ⌜ ReadsOptionalText terms (now (text .entry)) v used r ⌝ }
+    ensures { λ r. ⌜ TakesText terms used r ⌝ }
 {
     if v == 0 {
-        return Worded::Is(0, 0);
+        return Worded::Is(0, 0, used);
     }
     if is_null(text, v) {
-        return Worded::Is(0, 0);
+        return Worded::Is(0, 0, used);
     }
     if !is_text(text, v) {
         return Worded::Refused(4, v);
     }
     let n = strings::decoded_length(text, v);
     if n == 0 {
-        return Worded::Is(0, 0);
+        return Worded::Is(0, 0, used);
     }
-    within_room(v, n, room)
+    within_room(v, n, terms, used)
 }
 
 // The longest date, yyyy-mm-ddThh:mm:ss+hh:mm.

@@ -2,3 +2,4 @@
 pub mod date;
 pub mod days;
 pub mod field;
+pub mod four;

@@ -1,6 +1,6 @@
 -- The head's object opened, its names known, and its first rows: the dates and the reserve mark.
 use Prim.Native.Nat.{ℕ}
-use mathlib.Core.Path.{_≡_, refl, ap, subst, _∙_}
+use mathlib.Core.Path.{_≡_, refl, sym, ap, subst, _∙_}
 use mathlib.Core.List.{List, [], _∷_}
 use mathlib.Core.Bool.{Bool, true, false}
 use mathlib.Core.Option.{Option, none, some, Option·getD}
@@ -12,14 +12,18 @@ use Rattle.document.specs.Bytes.{bytes}
 use Rattle.document.specs.Posology as P
 use Rattle.document.specs.Lookup.{Entry, find, unknown}
 use Rattle.document.specs.Schema.{Rows, may, aString, date, aFlag, aPosology, rowsOf, posologyRows, names}
-use Rattle.document.specs.Visit.{Left, Outcome, unless, Value, entriesOf, optional, fields, members}
-use Rattle.document.specs.declared.table.Date.{Date}
+use Rattle.document.specs.Visit.{State, Outcome, unless, Value, entriesOf, optional, fields, members}
 use Rattle.document.specs.At.{At, Slot}
-use Rattle.names.specs.Names.{Once, nameAt, rowNames, Tells}
+use Rattle.document.specs.Told.{Tells, Still}
+use Rattle.document.specs.declared.table.Date.{Date}
+use Rattle.document.specs.declared.terms.Terms.{Terms}
+use Rattle.document.specs.declared.terms.Used.{Used}
+use Rattle.names.specs.Names.{Once, nameAt, rowNames}
+use Rattle.names.specs.Names as N
 use Rattle.fields.specs.Fields.{Refuses, Dated, Given, ReadsDate, ReadsFlag, ReadsGiven, flagNumber}
-use Rattle.opening.specs.Opens.{OpensAs}
-use Rattle.dosages.specs.Visiting.{leftOf}
-use Rattle.visits.specs.Detail.{noneUsed}
+use Rattle.fields.proofs.Refusals.{refuses-as}
+use Rattle.opening.specs.Opens.{OpensAs, Plain}
+use Rattle.dosages.specs.Kept.{Ready}
 use Rattle.heads.specs.Heads.{HeadReads}
 use Rattle.heads.specs.HeadRows.{poRows, ReadsFromDetail}
 use Rattle.names.specs.declared.Unknown.{Unknown}
@@ -30,7 +34,9 @@ use Rattle.fields.specs.declared.field.DateField.{DateField}
 use Rattle.fields.specs.declared.field.DateField.the-variants as D
 use Rattle.records.specs.declared.read.HeadRead.{HeadRead}
 use Rattle.opening.specs.declared.opened.Opened.{Opened}
-use Rattle.dosages.proofs.Bodies.{object-at, refuses-as, refuses-bind, done-bind}
+use Rattle.opening.specs.declared.opened.Opened.the-variants as O
+use Rattle.opening.specs.declared.opened.Object.{Object}
+use Rattle.dosages.proofs.Bodies.{Comes, object-at, passed-given, stopped-given}
 use Rattle.heads.proofs.HeadDetail.{head-as}
 
 -- The names of the head's rows by their numbers.
@@ -53,47 +59,65 @@ reserveRows b x y = may "inRes" aFlag λ z. poRows b x y z
 abbrev toRows : Bool → Option P.Date → Rows P.Posology
 toRows b x = may "dtTo" (aString date) λ y. reserveRows b x y
 
-module _ (text : List ℕ) (at room purpose : ℕ) (p : Place) (ms : Members) (stands : At text at (object p ms)) (o : Opened) (opens : OpensAs text at o (entriesOf ms)) where
-  abbrev start : Left
-  start = leftOf room noneUsed
+abbrev fromRows : Bool → Rows P.Posology
+fromRows b = may "dtFrom" (aString date) λ x. toRows b x
 
+-- A date by its result.
+module _ {text : List ℕ} (v : ℕ) (r : DateField) (reads : ReadsDate text v r) where
+  date-is : {d : Date} → r ≡ D.Is d → ReadsDate text v (D.Is d)
+  date-is e = subst (λ (w : DateField). ReadsDate text v w) e reads
+
+  date-refused : {n q : ℕ} → r ≡ D.Refused n q → ReadsDate text v (D.Refused n q)
+  date-refused e = subst (λ (w : DateField). ReadsDate text v w) e reads
+
+-- By the results of what the code reads in turn.
+module _ (terms : Terms) (text : List ℕ) (at : ℕ) (u : Used) (before : List ℕ) (s : State) (tells : Tells terms text u s) (p : Place) (ms : Members) (stands : At text at (object p ms))
+    (a : Opened) (o : Object) (opens : OpensAs text at u (entriesOf ms) a o) where
   abbrev es : List (Entry Value)
   es = entriesOf ms
 
+  abbrev b : Bool
+  b = eqb (terms .purpose) 3
+
   abbrev all : Outcome P.Posology
-  all = members (aPosology purpose) p es start
+  all = members (aPosology (terms .purpose)) p es s
 
-  at-brace : all ≡ members (aPosology purpose) (drop at text) es start
-  at-brace = ap (λ (q : Place). members (aPosology purpose) q es start) (object-at stands)
+  at-brace : all ≡ members (aPosology (terms .purpose)) (drop at text) es s
+  at-brace = ap (λ (q : Place). members (aPosology (terms .purpose)) q es s) (object-at stands)
 
-  pub not-opened : o .refused ≡ true → Refuses text all (o .number) (o .place)
-  not-opened e = refuses-as at-brace (opens .refused e (aPosology purpose) refl start)
+  pub not-opened : {n q : ℕ} → a ≡ O.Refused n q → Refuses text all n q
+  not-opened e = refuses-as at-brace (subst (λ (w : Opened). OpensAs text at u es w o) e opens (aPosology (terms .purpose)) refl s)
 
-  module _ (e : o .refused ≡ false) where
+  module _ {kind : ℕ} {v : Used} (e : a ≡ O.Is kind v) where
+    plain : Plain text at u es v o
+    plain = subst (λ (w : Opened). OpensAs text at u es w o) e opens
+
     pub once : Once text es (o .members) (o .slots)
-    once = opens .settled e
+    once = plain .settled
 
-    abbrev b : Bool
-    b = eqb purpose 3
-
-    opened : all ≡ unless (unknown (rowNames headNames) es) 5 (fields (posologyRows b) (drop at text) es start)
+    opened : all ≡ unless (unknown (rowNames headNames) es) 5 (fields (posologyRows b) (drop at text) es s)
     unfolding rowsOf
     opened =
-        at-brace ∙ opens .opened e (aPosology purpose) refl start
-        ∙ ap (λ (ns : List (List ℕ)). unless (unknown ns es) 5 (fields (posologyRows b) (drop at text) es start)) (named b)
+        at-brace ∙ plain .opens (aPosology (terms .purpose)) refl s
+        ∙ ap (λ (ns : List (List ℕ)). unless (unknown ns es) 5 (fields (posologyRows b) (drop at text) es s)) (named b)
 
-    module _ (u : Unknown) (tells : Tells text (unknown (rowNames headNames) es) u) where
-      tells-as : (w : Unknown) → u ≡ w → Tells text (unknown (rowNames headNames) es) w
-      tells-as w k = subst (λ (v : Unknown). Tells text (unknown (rowNames headNames) es) v) k tells
+    module _ (r : Unknown) (told : N.Tells text (unknown (rowNames headNames) es) r) where
+      pub unknown-name : {q : ℕ} → r ≡ U.At q → Refuses text all 5 q
+      unknown-name k =
+          let t = subst (λ (w : Unknown). N.Tells text (unknown (rowNames headNames) es) w) k told in
+          record { outcome = opened ∙ ap (λ (x : Option Place). unless x 5 (fields (posologyRows b) (drop at text) es s)) (t .0); inside = t .1 }
 
-      pub unknown-name : {q : ℕ} → u ≡ U.At q → Refuses text all 5 q
-      unknown-name {q} k =
-          let t = tells-as (U.At q) k in
-          record { outcome = opened ∙ ap (λ (x : Option Place). unless x 5 (fields (posologyRows b) (drop at text) es start)) (t .0); inside = t .1 }
-
-      module _ (k : u ≡ U.None) where
-        rows : all ≡ fields (posologyRows b) (drop at text) es start
-        rows = opened ∙ ap (λ (x : Option Place). unless x 5 (fields (posologyRows b) (drop at text) es start)) (tells-as U.None k)
+      module _ (k : r ≡ U.None) (f : DateField) (reads-from : ReadsDate text (getD (o .slots) 25 0) f) where
+        begins : Comes terms text all (drop at text) es (fromRows b) v
+        unfolding posologyRows
+        begins =
+            record {
+              state = s;
+              outcome =
+                  opened
+                  ∙ ap (λ (x : Option Place). unless x 5 (fields (posologyRows b) (drop at text) es s)) (subst (λ (w : Unknown). N.Tells text (unknown (rowNames headNames) es) w) k told);
+              tells = subst (λ (w : Used). Tells terms text w s) (sym (plain .same)) tells;
+            }
 
         from-slot : Slot text (getD (o .slots) 25 0) (find (bytes "dtFrom") es)
         unfolding nameAt
@@ -103,52 +127,47 @@ module _ (text : List ℕ) (at room purpose : ℕ) (p : Place) (ms : Members) (s
         unfolding nameAt
         to-slot = once .slot 26 (omega arith)
 
-        reserve-slot : Slot text (getD (o .slots) 27 0) (find (bytes "inRes") es)
+        mark-slot : Slot text (getD (o .slots) 27 0) (find (bytes "inRes") es)
         unfolding nameAt
-        reserve-slot = once .slot 27 (omega arith)
+        mark-slot = once .slot 27 (omega arith)
 
-        module _ (f : DateField) (reads-from : ReadsDate text (getD (o .slots) 25 0) f) where
-          pub from-stops : {n q : ℕ} → f ≡ D.Refused n q → Refuses text all n q
-          unfolding posologyRows
-          from-stops {n} {q} g =
-              refuses-as rows
-              (refuses-bind (λ x l. fields (toRows b x) (drop at text) es l)
-              (subst (λ (w : DateField). ReadsDate text (getD (o .slots) 25 0) w) g reads-from (find (bytes "dtFrom") es) from-slot (drop at text) start))
+        pub from-stops : {n q : ℕ} → f ≡ D.Refused n q → Refuses text all n q
+        from-stops g = stopped-given begins (date-refused (getD (o .slots) 25 0) f reads-from g (find (bytes "dtFrom") es) from-slot (drop at text) (begins .state))
 
-          module _ {df : Date} (g : f ≡ D.Is df) where
-            pub from : Dated (optional (aString date) (drop at text) (find (bytes "dtFrom") es) start) start df
-            from = subst (λ (w : DateField). ReadsDate text (getD (o .slots) 25 0) w) g reads-from (find (bytes "dtFrom") es) from-slot (drop at text) start
+        module _ {df : Date} (g : f ≡ D.Is df) (f₂ : DateField) (reads-to : ReadsDate text (getD (o .slots) 26 0) f₂) where
+          from : Dated (optional (aString date) (drop at text) (find (bytes "dtFrom") es) (begins .state)) (begins .state) df
+          from = date-is (getD (o .slots) 25 0) f reads-from g (find (bytes "dtFrom") es) from-slot (drop at text) (begins .state)
 
-            behind-from : all ≡ fields (toRows b (from .value)) (drop at text) es start
-            unfolding posologyRows
-            behind-from = rows ∙ done-bind (λ x l. fields (toRows b x) (drop at text) es l) (from .outcome)
+          behind-from : Comes terms text all (drop at text) es (toRows b (from .value)) v
+          behind-from = passed-given begins (from .outcome)
 
-            module _ (f₂ : DateField) (reads-to : ReadsDate text (getD (o .slots) 26 0) f₂) where
-              pub to-stops : {n q : ℕ} → f₂ ≡ D.Refused n q → Refuses text all n q
-              to-stops {n} {q} g₂ =
-                  refuses-as behind-from
-                  (refuses-bind (λ y l. fields (reserveRows b (from .value) y) (drop at text) es l)
-                  (subst (λ (w : DateField). ReadsDate text (getD (o .slots) 26 0) w) g₂ reads-to (find (bytes "dtTo") es) to-slot (drop at text) start))
+          pub to-stops : {n q : ℕ} → f₂ ≡ D.Refused n q → Refuses text all n q
+          to-stops g₂ = stopped-given behind-from (date-refused (getD (o .slots) 26 0) f₂ reads-to g₂ (find (bytes "dtTo") es) to-slot (drop at text) (behind-from .state))
 
-              module _ {dt : Date} (g₂ : f₂ ≡ D.Is dt) where
-                pub to : Dated (optional (aString date) (drop at text) (find (bytes "dtTo") es) start) start dt
-                to = subst (λ (w : DateField). ReadsDate text (getD (o .slots) 26 0) w) g₂ reads-to (find (bytes "dtTo") es) to-slot (drop at text) start
+          module _ {dt : Date} (g₂ : f₂ ≡ D.Is dt) (f₃ : Field) (reads-mark : ReadsFlag text (getD (o .slots) 27 0) f₃) where
+            to : Dated (optional (aString date) (drop at text) (find (bytes "dtTo") es) (behind-from .state)) (behind-from .state) dt
+            to = date-is (getD (o .slots) 26 0) f₂ reads-to g₂ (find (bytes "dtTo") es) to-slot (drop at text) (behind-from .state)
 
-                behind-to : all ≡ fields (reserveRows b (from .value) (to .value)) (drop at text) es start
-                behind-to = behind-from ∙ done-bind (λ y l. fields (reserveRows b (from .value) y) (drop at text) es l) (to .outcome)
+            behind-to : Comes terms text all (drop at text) es (reserveRows b (from .value) (to .value)) v
+            behind-to = passed-given behind-from (to .outcome)
 
-                module _ (f₃ : Field) (reads-mark : ReadsFlag text (getD (o .slots) 27 0) f₃) where
-                  reads-as : (w : Field) → f₃ ≡ w → ReadsGiven text (optional aFlag (drop at text) (find (bytes "inRes") es) start) start flagNumber w
-                  reads-as w k₃ = subst (λ (v : Field). ReadsGiven text (optional aFlag (drop at text) (find (bytes "inRes") es) start) start flagNumber v) k₃ (reads-mark (find (bytes "inRes") es) reserve-slot (drop at text) start)
+            reads-as : (w : Field) → f₃ ≡ w → ReadsGiven text (optional aFlag (drop at text) (find (bytes "inRes") es) (behind-to .state)) (behind-to .state) flagNumber w
+            reads-as w g₃ =
+                subst (λ (w : Field). ReadsGiven text (optional aFlag (drop at text) (find (bytes "inRes") es) (behind-to .state)) (behind-to .state) flagNumber w) g₃
+                (reads-mark (find (bytes "inRes") es) mark-slot (drop at text) (behind-to .state))
 
-                  pub mark-stops : {n q : ℕ} → f₃ ≡ F.Refused n q → Refuses text all n q
-                  mark-stops {n} {q} g₃ = refuses-as behind-to (refuses-bind (λ z l. fields (poRows b (from .value) (to .value) z) (drop at text) es l) (reads-as (F.Refused n q) g₃))
+            pub mark-stops : {n q : ℕ} → f₃ ≡ F.Refused n q → Refuses text all n q
+            mark-stops {n} {q} g₃ = stopped-given behind-to (reads-as (F.Refused n q) g₃)
 
-                  module _ {n : ℕ} (g₃ : f₃ ≡ F.Is n) where
-                    mark : Given (optional aFlag (drop at text) (find (bytes "inRes") es) start) start flagNumber n
-                    mark = reads-as (F.Is n) g₃
+            module _ {n : ℕ} (g₃ : f₃ ≡ F.Is n) where
+              mark : Given (optional aFlag (drop at text) (find (bytes "inRes") es) (behind-to .state)) (behind-to .state) flagNumber n
+              mark = reads-as (F.Is n) g₃
 
-                    pub head-read : {h : HeadRead} {after : List ℕ} → ReadsFromDetail purpose text at (o .slots) room df dt (eqb n 1) h after → HeadReads text room all h after
-                    head-read rest =
-                        head-as (behind-to ∙ done-bind (λ z l. fields (poRows b (from .value) (to .value) z) (drop at text) es l) (mark .outcome))
-                        (rest es (o .members) once (from .value) (to .value) (mark .value) (from .cell) (to .cell) (flag-is (mark .value) ∙ ap (λ (k : ℕ). eqb k 1) (mark .counts)))
+              behind-mark : Comes terms text all (drop at text) es (poRows b (from .value) (to .value) (mark .value)) v
+              behind-mark = passed-given behind-to (mark .outcome)
+
+              pub head-read : {h : HeadRead} {after : List ℕ} → ReadsFromDetail terms text at (o .slots) df dt (eqb n 1) v before h after → HeadReads terms text u before all h after
+              head-read {h} {after} rest =
+                  head-as (behind-mark .outcome)
+                  (subst (λ (w : Used). HeadReads terms text w before (fields (poRows b (from .value) (to .value) (mark .value)) (drop at text) es (behind-mark .state)) h after) (plain .same)
+                  (rest es (o .members) once (from .value) (to .value) (mark .value) (from .cell) (to .cell) (flag-is (mark .value) ∙ ap (λ (k : ℕ). eqb k 1) (mark .counts)) (behind-mark .state) (behind-mark .tells)))

@@ -2,8 +2,13 @@
 use document::moments;
 use document::table::Date;
 use document::table::MEAL_CODES;
+use document::table::RECORDS;
 use document::table::WORDS;
+use document::terms;
+use document::terms::Terms;
+use document::terms::Used;
 use fields::field;
+use fields::field::Counted;
 use fields::field::DateField;
 use fields::field::Field;
 use fields::field::Worded;
@@ -19,18 +24,18 @@ use names::ROA;
 use names::UNIT;
 use names::Unknown;
 use opening::opened;
+use opening::opened::Opened;
 use records::read::HeadRead;
 use records::read::Piece;
-use records::rows::Used;
 use records::rows::Visit;
 use visits::detail;
 ghost use mathlib.Core.Path.{_≡_};
 ghost use Prim.Native.Nat.{ℕ, _≤_};
-ghost use lib.Dec.{eqb};
 ghost use lib.ListN.{length};
 ghost use Rattle.heads.specs.HeadRows.{noPiece, pieceAt, ReadsUnit, ReadsStrings, ReadsFromDetail};
 ghost use Rattle.heads.specs.Heads.{RefusedAt, ReadsHead, AnswersHead};
-ghost use Rattle.fields.specs.Fields.{Within};
+ghost use Rattle.fields.specs.Fields.{TakesText};
+ghost use Rattle.dosages.specs.Kept.{Ready};
 
 const POSOLOGY: [usize; 9] = [
     DT_FROM,
@@ -72,10 +77,7 @@ pub fn refused(number: u8, place: usize) -> HeadRead
         instructions: p,
         roa: p,
         moa: p,
-        used: Used {
-            records: 0,
-            text: 0,
-        },
+        used: terms::none_used(),
     }
 }
 
@@ -110,8 +112,26 @@ fn up_worded(f: Worded) -> HeadRead
     ensures { λ r. ⌜ ((n p : ℕ) → f ≡ Worded.Refused n p → RefusedAt r n p) ⌝ }
 {
     match f {
-        Worded::Is(_, _) => refused(0, 0),
+        Worded::Is(_, _, _) => refused(0, 0),
         Worded::Refused(n, p) => refused(n, p),
+    }
+}
+
+fn up_counted(f: Counted) -> HeadRead
+    ensures { λ r. ⌜ ((n p : ℕ) → f ≡ Counted.Refused n p → RefusedAt r n p) ⌝ }
+{
+    match f {
+        Counted::Is(_, _) => refused(0, 0),
+        Counted::Refused(n, p) => refused(n, p),
+    }
+}
+
+fn up_opened(o: Opened) -> HeadRead
+    ensures { λ r. ⌜ ((n p : ℕ) → o ≡ Opened.Refused n p → RefusedAt r n p) ⌝ }
+{
+    match o {
+        Opened::Is(_, _) => refused(0, 0),
+        Opened::Refused(n, p) => refused(n, p),
     }
 }
 
@@ -130,47 +150,43 @@ fn piece_at(quote: usize, start: usize, len: usize) -> Piece
 }
 
 // "unit (optional for use 3)"
-fn unit_field(text: &[u8], brace: usize, v: usize, purpose: u64, room: usize) -> Worded
+fn unit_field(text: &[u8], brace: usize, v: usize, terms: Terms, used: Used) -> Worded
     requires { ⌜ brace ≤ length (now text) ⌝ }
-    ensures { λ r. ⌜ ReadsUnit (eqb purpose 3) (now (text .entry)) brace v room r ⌝ }
-    ensures { λ r. ⌜ Within room r ⌝ }
+    ensures { λ r. ⌜ ReadsUnit terms (now (text .entry)) brace v used r ⌝ }
+    ensures { λ r. ⌜ TakesText terms used r ⌝ }
 {
-    if purpose == 3 {
-        return field::optional_text(text, v, room);
+    if terms.purpose == 3 {
+        return field::optional_text(text, v, terms, used);
     }
-    field::text_field(text, brace, v, room)
+    field::text_field(text, brace, v, terms, used)
 }
 
-// The strings of the head, behind `used`; then the dates' order (12).
+// The strings of the head, behind what is taken; then the dates' order (12).
 fn with_strings(
     text: &[u8],
     at: usize,
     slots: [usize; NAMES],
-    purpose: u64,
-    room: usize,
+    terms: Terms,
     h: HeadRead,
 ) -> HeadRead
-    requires { ⌜ (at ≤ length (now text)) × (h .used .text ≤ room) ⌝ }
-    ensures { λ r. ⌜ ReadsStrings purpose (now (text .entry)) at slots room h r ⌝ }
+    requires { ⌜ (at ≤ length (now text)) × (h .used .text ≤ terms .room) ⌝ }
+    ensures { λ r. ⌜ ReadsStrings terms (now (text .entry)) at slots h r ⌝ }
 {
-    let a = h.used.text;
-    let f = unit_field(text, at, slots[UNIT], purpose, room - a);
-    let Worded::Is(unit, n) = f else {
+    let a = h.used;
+    let f = unit_field(text, at, slots[UNIT], terms, a);
+    let Worded::Is(unit, n, b) = f else {
         return up_worded(f);
     };
-    let b = a + n;
-    let f = field::optional_text(text, slots[APPL_INSTR], room - b);
-    let Worded::Is(instructions, m) = f else {
+    let f = field::optional_text(text, slots[APPL_INSTR], terms, b);
+    let Worded::Is(instructions, m, c) = f else {
         return up_worded(f);
     };
-    let c = b + m;
-    let f = field::optional_text(text, slots[ROA], room - c);
-    let Worded::Is(roa, k) = f else {
+    let f = field::optional_text(text, slots[ROA], terms, c);
+    let Worded::Is(roa, k, d) = f else {
         return up_worded(f);
     };
-    let d = c + k;
-    let f = field::optional_text(text, slots[MOA], room - d);
-    let Worded::Is(moa, l) = f else {
+    let f = field::optional_text(text, slots[MOA], terms, d);
+    let Worded::Is(moa, l, used) = f else {
         return up_worded(f);
     };
     let from = h.from;
@@ -186,14 +202,11 @@ fn with_strings(
         to: to,
         reserve: h.reserve,
         meal: h.meal,
-        unit: piece_at(unit, a, n),
-        instructions: piece_at(instructions, b, m),
-        roa: piece_at(roa, c, k),
-        moa: piece_at(moa, d, l),
-        used: Used {
-            records: h.used.records,
-            text: d + l,
-        },
+        unit: piece_at(unit, a.text, n),
+        instructions: piece_at(instructions, b.text, m),
+        roa: piece_at(roa, c.text, k),
+        moa: piece_at(moa, d.text, l),
+        used: used,
     }
 }
 
@@ -202,23 +215,23 @@ fn with_detail(
     text: &[u8],
     at: usize,
     slots: [usize; NAMES],
-    purpose: u64,
-    room: usize,
+    terms: Terms,
     from: Date,
     to: Date,
     reserve: bool,
+    used: Used,
     words: &mut [u64],
 ) -> HeadRead
-    requires { ⌜ (length (now words) ≡ 384) × (at ≤ length (now text)) ⌝ }
-    ensures { λ r. ⌜ ReadsFromDetail purpose (now (text .entry)) at slots room from to reserve r (now (words .exit)) ⌝ }
+    requires { ⌜ Ready terms (now words) used × (at ≤ length (now text)) ⌝ }
+    ensures { λ r. ⌜ ReadsFromDetail terms (now (text .entry)) at slots from to reserve used (now (words .entry)) r (now (words .exit)) ⌝ }
 {
-    let r = detail::read_po(text, at, slots[PO], room, words);
-    let Visit::Done(used) = r else {
+    let r = detail::read_po(text, at, slots[PO], terms, used, words);
+    let Visit::Done(done) = r else {
         return up_visit(r);
     };
-    let f = field::optional_integer(text, slots[REL_MEAL], 1, MEALS, 0);
-    let Field::Is(meal) = f else {
-        return up_field(f);
+    let f = field::optional_integer(text, slots[REL_MEAL], 1, MEALS, 0, done);
+    let Counted::Is(meal, done) = f else {
+        return up_counted(f);
     };
     let p = no_piece();
     let h = HeadRead {
@@ -233,22 +246,24 @@ fn with_detail(
         instructions: p,
         roa: p,
         moa: p,
-        used: used,
+        used: done,
     };
-    with_strings(text, at, slots, purpose, room, h)
+    with_strings(text, at, slots, terms, h)
 }
 
 // The posology whose brace stands at `at`.
-fn head_at(text: &[u8], at: usize, purpose: u64, room: usize, words: &mut [u64]) -> HeadRead
-    requires { ⌜ (length (now words) ≡ 384) × (at ≤ length (now text)) ⌝ }
-    ensures { λ r. ⌜ ReadsHead purpose room (now (text .entry)) at r (now (words .exit)) ⌝ }
+fn head_at(text: &[u8], at: usize, terms: Terms, used: Used, words: &mut [u64]) -> HeadRead
+    requires { ⌜ Ready terms (now words) used × (at ≤ length (now text)) ⌝ }
+    ensures { λ r. ⌜ ReadsHead terms (now (text .entry)) at used (now (words .entry)) r (now (words .exit)) ⌝ }
 {
-    let o = opened::open_plain(text, at);
-    if o.refused {
-        return refused(o.number, o.place);
-    }
-    let slots = o.slots;
-    if let Unknown::At(q) = names::unknown_name(text, at, o.members, &slots, &POSOLOGY) {
+    let o = opened::open_plain(text, at, used);
+    let answer = o.answer;
+    let Opened::Is(_, behind) = answer else {
+        return up_opened(answer);
+    };
+    let members = o.object.members;
+    let slots = o.object.slots;
+    if let Unknown::At(q) = names::unknown_name(text, at, members, &slots, &POSOLOGY) {
         return refused(5, q);
     }
     let f = field::date_field(text, slots[DT_FROM]);
@@ -267,24 +282,30 @@ fn head_at(text: &[u8], at: usize, purpose: u64, room: usize, words: &mut [u64])
         text,
         at,
         slots,
-        purpose,
-        room,
+        terms,
         from,
         to,
         reserve == 1,
+        behind,
         words,
     )
 }
 
-// The same for whatever is lent: words of another number, or a place behind the text, are refused with 0.
-pub fn read_head(text: &[u8], at: usize, purpose: u64, room: usize, words: &mut [u64]) -> HeadRead
-    ensures { λ r. ⌜ AnswersHead purpose room (now (text .entry)) at (now (words .entry)) r (now (words .exit)) ⌝ }
+// The same for whatever is lent: words of another number, more taken than there is, or a place behind the text are refused with 0.
+pub fn read_head(text: &[u8], at: usize, terms: Terms, used: Used, words: &mut [u64]) -> HeadRead
+    ensures { λ r. ⌜ AnswersHead terms (now (text .entry)) at used (now (words .entry)) r (now (words .exit)) ⌝ }
 {
     if words.len() != WORDS {
+        return refused(0, 0);
+    }
+    if RECORDS < used.records {
+        return refused(0, 0);
+    }
+    if terms.room < used.text {
         return refused(0, 0);
     }
     if text.len() < at {
         return refused(0, 0);
     }
-    head_at(text, at, purpose, room, words)
+    head_at(text, at, terms, used, words)
 }

@@ -6,11 +6,11 @@ use mathlib.Core.Bool.{true}
 use lib.ListN.{length, take, drop}
 use borrow.Author.Tests.{eq-eqb, ne-eqb}
 use Rattle.document.specs.Posology.{Posology}
-use Rattle.document.specs.Valid.{roomOf}
 use Rattle.document.specs.Plain.{plain}
 use Rattle.document.specs.Answer as R
-use Rattle.document.specs.Answer.{Read, read, bufferAfter}
-use Rattle.document.specs.Write.{greatestRoom}
+use Rattle.document.specs.Answer.{Read, read, bufferAfter, inRoom}
+use Rattle.document.specs.Write.{inGreatestRoom}
+use Rattle.document.specs.declared.terms.Terms.{Terms}
 use Rattle.meaning.proofs.Spelled.{accepted-spells, one-posology}
 use Rattle.meaning.proofs.PlainTexts.{plain-reads}
 use Rattle.telling.specs.Telling.{tells}
@@ -33,12 +33,12 @@ fetched-leaves (R.taken p) strings table h = absurd (h refl)
 fetched-leaves (R.refused n place) strings table h = (refl, refl)
 
 -- Of a plain text on a shelf no other posology is taken, in any room.
-plain-back : (key room : ℕ) (p q : Posology) → goodEntry (entry key q) ≡ true → read bothUses room (plain q) ≡ R.taken p → q ≡ p
-plain-back key room p q i e =
+plain-back : (key : ℕ) (terms : Terms) (p q : Posology) → goodEntry (entry key q) ≡ true → read terms (plain q) ≡ R.taken p → q ≡ p
+plain-back key terms p q i e =
     let g = good-parts (entry key q) i in
     one-posology (plain q) q p
-    (accepted-spells bothUses greatestRoom (plain q) q (plain-reads bothUses greatestRoom q (refl, g .is-valid) (g .fits) (g .fits)) .2)
-    (accepted-spells bothUses room (plain q) p e .2)
+    (accepted-spells (inGreatestRoom bothUses) (plain q) q (plain-reads (inGreatestRoom bothUses) q (refl, g .is-valid) (g .fits) (g .fits)) .2)
+    (accepted-spells terms (plain q) p e .2)
 
 -- What reading tells of a text, fetching tells of it, if it is the plain text of what was taken.
 told-fetched : (text : List ℕ) (x : Read) → ((p : Posology) → x ≡ R.taken p → length text ≡ length (plain p))
@@ -78,8 +78,8 @@ module _ (key : ℕ) (area strings table : List ℕ) where
     there : FoundText area key from to
     there = found-text area key from to e
 
-    as-plain : x ≡ read bothUses (roomOf (length strings)) (plain (there .posology))
-    as-plain = sym (sized bothUses text strings table h) ∙ ap (read bothUses (roomOf (length strings))) (there .text)
+    as-plain : x ≡ read (inRoom bothUses (length strings)) (plain (there .posology))
+    as-plain = sym (sized bothUses text strings table h) ∙ ap (read (inRoom bothUses (length strings))) (there .text)
 
     same-call : x ≡ calledFetch area key (length strings) (length table)
     same-call = as-plain ∙ sym (there .reads (length strings)) ∙ fetch-sized h
@@ -88,7 +88,7 @@ module _ (key : ℕ) (area strings table : List ℕ) where
     told-alike = told-fetched text x λ p t.
         ap length (there .text)
         ∙ ap (λ (q : Posology). length (plain q))
-        (plain-back key (roomOf (length strings)) p (there .posology) (there .is-good) (sym as-plain ∙ t))
+        (plain-back key (inRoom bothUses (length strings)) p (there .posology) (there .is-good) (sym as-plain ∙ t))
 
     pub found-read : {n place : ℕ} {strings′ table′ : List ℕ} → ReadsInto bothUses text strings table n place strings′ table′
         → FetchesInto key area strings table n place strings′ table′

@@ -9,10 +9,10 @@ use lib.Dec.{eqb}
 use lib.ListN.{length, drop}
 use Rattle.json.specs.Rows.{choose}
 use Rattle.document.specs.Posology.{Posology}
-use Rattle.document.specs.Valid.{Valid, Fits, roomOf, strings}
+use Rattle.document.specs.Valid.{Valid, Fits, strings}
 use Rattle.document.specs.Table.{tableOf}
 use Rattle.document.specs.Plain.{plain}
-use Rattle.document.specs.Answer.{Read, taken, refused, read, bufferAfter, ReadNext, takenTo, refusedAt, readNext, nextBufferAfter}
+use Rattle.document.specs.Answer.{Read, taken, refused, read, bufferAfter, ReadNext, takenTo, refusedAt, readNext, nextBufferAfter, inRoom}
 use Rattle.document.specs.Write.{write, fitting, greatestRoom}
 use Rattle.document.specs.declared.table.Table.{Table}
 use Rattle.demands.proofs.Demand2.{accepted-iff-spells, plain-is-one}
@@ -41,8 +41,8 @@ pub read-written : (purpose : ℕ) (text buffer area out : List ℕ) (p : Posolo
     → calledWrite purpose (areaAfter (taken p) area) (bufferAfter (taken p) buffer) (length out) ≡ fitting (length out) (plain p)
 unfolding called areaAfter
 read-written purpose text buffer area out p e =
-    let r : read purpose (roomOf (length buffer)) text ≡ taken p = was-sized (eqb (length area) areaBytes) (read purpose (roomOf (length buffer)) text) p e in
-    let a = accepted-iff-spells purpose (roomOf (length buffer)) text p .0 r in
+    let r : read (inRoom purpose (length buffer)) text ≡ taken p = was-sized (eqb (length area) areaBytes) (read (inRoom purpose (length buffer)) text) p e in
+    let a = accepted-iff-spells (inRoom purpose (length buffer)) text p .0 r in
     laid-written purpose p (a .1) (le-trans (a .3) (min-le-right (length buffer) greatestRoom)) buffer out
 
 was-next : (b : Bool) (x : ReadNext) (p : Posology) (e : ℕ) → choose b (λ _. x) (λ _. refusedAt 19 areaBytes) ≡ takenTo p e → x ≡ takenTo p e
@@ -54,6 +54,6 @@ pub next-written : (purpose : ℕ) (run buffer area out : List ℕ) (p : Posolog
     → calledWrite purpose (nextAreaAfter (takenTo p e) area) (nextBufferAfter (takenTo p e) buffer) (length out) ≡ fitting (length out) (plain p)
 unfolding calledNext nextAreaAfter
 next-written purpose run buffer area out p e h =
-    let r : readNext purpose (roomOf (length buffer)) run ≡ takenTo p e = was-next (eqb (length area) areaBytes) (readNext purpose (roomOf (length buffer)) run) p e h in
-    let a = first-iff-spells purpose (roomOf (length buffer)) run p e .0 r in
+    let r : readNext (inRoom purpose (length buffer)) run ≡ takenTo p e = was-next (eqb (length area) areaBytes) (readNext (inRoom purpose (length buffer)) run) p e h in
+    let a = first-iff-spells (inRoom purpose (length buffer)) run p e .0 r in
     laid-written purpose p (a .0) (le-trans (a .1) (min-le-right (length buffer) greatestRoom)) buffer out

@@ -4,9 +4,8 @@ use mathlib.Core.Path.{_≡_, refl, ap, subst, _∙_}
 use mathlib.Core.List.{List}
 use lib.ListN.{length}
 use borrow.Author.Tests.{eq-eqb, ne-eqb}
-use Rattle.document.specs.Valid.{roomOf}
 use Rattle.document.specs.Values.{Values, nextValues}
-use Rattle.document.specs.Answer.{ReadNext, takenTo, blankTo, refusedAt, readNext, readNextValues, nextTableAfter, nextBufferAfter}
+use Rattle.document.specs.Answer.{ReadNext, takenTo, blankTo, refusedAt, readNext, readNextValues, nextTableAfter, nextBufferAfter, inRoom}
 use Rattle.document.specs.declared.table.NextAnswer.{NextAnswer}
 use Rattle.document.specs.declared.table.NextAnswer.the-variants as N
 use Rattle.document.specs.declared.table.Table.{Table}
@@ -46,7 +45,7 @@ module _ (purpose : ℕ) (run strings area : List ℕ) where
   unfolding calledNext nextAreaAfter
   other-size h = record { number = rw (ne-eqb _ _ h); place = rw (ne-eqb _ _ h); strings-left = rw (ne-eqb _ _ h); area-left = rw (ne-eqb _ _ h) }
 
-  sized : length area ≡ areaBytes → readNext purpose (roomOf (length strings)) run ≡ calledNext purpose run (length strings) (length area)
+  sized : length area ≡ areaBytes → readNext (inRoom purpose (length strings)) run ≡ calledNext purpose run (length strings) (length area)
   unfolding calledNext
   sized h = rw (eq-eqb _ _ h)
 

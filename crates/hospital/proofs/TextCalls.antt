@@ -7,9 +7,8 @@ use native.Mathlib.Omega.{arith}
 use lib.Dec.{eqb}
 use lib.ListN.{length}
 use borrow.Author.Tests.{eq-eqb, ne-eqb}
-use Rattle.document.specs.Valid.{roomOf}
 use Rattle.document.specs.Values.{Values, accepted, number}
-use Rattle.document.specs.Answer.{Read, taken, refused, read, readValues, tableAfter, bufferAfter}
+use Rattle.document.specs.Answer.{Read, taken, refused, read, readValues, tableAfter, bufferAfter, inRoom}
 use Rattle.area.specs.Area.{areaBytes, areaOf}
 use Rattle.records.specs.declared.read.HeadRead.{HeadRead}
 use Rattle.building.specs.Built.{built}
@@ -44,7 +43,7 @@ module _ (purpose : ℕ) (text strings area : List ℕ) where
   unfolding called areaAfter
   other-size h = record { number = rw (ne-eqb _ _ h); place = rw (ne-eqb _ _ h); strings-left = rw (ne-eqb _ _ h); area-left = rw (ne-eqb _ _ h) }
 
-  pub sized : length area ≡ areaBytes → read purpose (roomOf (length strings)) text ≡ called purpose text (length strings) (length area)
+  pub sized : length area ≡ areaBytes → read (inRoom purpose (length strings)) text ≡ called purpose text (length strings) (length area)
   unfolding called
   sized h = rw (eq-eqb _ _ h)
 

@@ -49,7 +49,7 @@ pub area-back : (purpose : ℕ) (area bytes : List ℕ) (room : ℕ) (w lent len
 unfolding areaAfter
 area-back purpose area bytes room w lent lentArea h n f =
     let a = was-area purpose area bytes room w h in
-    let k = read-back purpose (tableIn area) bytes w room (length lent) (a .1) f in
+    let k = read-back purpose (tableIn area) bytes w lent room (a .1) f in
     let p = k .posology in
     let m : tableIn area .text ≡ length (strings p) = text-of p (k .table) in
     record {

@@ -6,10 +6,10 @@ use mathlib.Core.List.{List}
 use lib.Dec.{eqb}
 use lib.ListN.{length}
 use Rattle.json.specs.Rows.{choose}
-use Rattle.document.specs.Valid.{isUse, roomOf}
+use Rattle.document.specs.Valid.{isUse}
 use Rattle.document.specs.Table.{tableOf}
 use Rattle.document.specs.Values.{Values, accepted, ends, blanksOnly, number}
-use Rattle.document.specs.Answer.{Read, taken, refused, read, readValues, bufferAfter, ReadNext, takenTo, blankTo, refusedAt, readNext, readNextValues, nextBufferAfter}
+use Rattle.document.specs.Answer.{Read, taken, refused, read, readValues, bufferAfter, ReadNext, takenTo, blankTo, refusedAt, readNext, readNextValues, nextBufferAfter, inRoom}
 use Rattle.document.specs.Write as W
 use Rattle.document.specs.Write.{Write, refuses, write, writeValues}
 use Rattle.document.specs.Length.{lengthOf}
@@ -20,7 +20,7 @@ use Rattle.area.specs.Area.{areaBytes, areaOf, tableIn, isArea}
 -- "An area of another size is 19 with that size as the place, before all else"
 unfoldable pub called : ℕ → List ℕ → ℕ → ℕ → Read
 called purpose text room area =
-    choose (eqb area areaBytes) (λ _. read purpose (roomOf room) text) λ _.
+    choose (eqb area areaBytes) (λ _. read (inRoom purpose room) text) λ _.
     refused 19 areaBytes
 
 -- An accepted text ends at its length.
@@ -51,7 +51,7 @@ module _ (purpose : ℕ) (text strings area : List ℕ) where
 
 unfoldable pub calledNext : ℕ → List ℕ → ℕ → ℕ → ReadNext
 calledNext purpose run room area =
-    choose (eqb area areaBytes) (λ _. readNext purpose (roomOf room) run) λ _.
+    choose (eqb area areaBytes) (λ _. readNext (inRoom purpose room) run) λ _.
     refusedAt 19 areaBytes
 
 unfoldable pub nextAreaAfter : ReadNext → List ℕ → List ℕ

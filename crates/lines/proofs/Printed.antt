@@ -16,7 +16,7 @@ use Rattle.document.specs.Plain.{plain}
 use Rattle.document.specs.Values.{ends, number, answerValues}
 use Rattle.document.specs.Answer as R
 use Rattle.document.specs.Answer.{Read, taken, refused, read, readValues, tableAfter, Reads, laid}
-use Rattle.document.specs.Write.{writes, refuses, write, fitting, writeValues, bufferAfter, greatestRoom}
+use Rattle.document.specs.Write.{writes, refuses, write, fitting, writeValues, bufferAfter, greatestRoom, inGreatestRoom}
 use Rattle.document.specs.Length.{greatestLength}
 use Rattle.document.specs.declared.table.Table.{Table}
 use Rattle.document.specs.declared.table.Reading.{Reading}
@@ -77,8 +77,8 @@ pub plain-fitting : (p : Posology) (behind : List ℕ) {t : Table} {text : List 
     → write forPlan t text room ≡ fitting room (plain p)
 plain-fitting p behind room v f e g = rw (e, g) (own-written forPlan room p behind v f)
 
-pub taken-near : (input : List ℕ) (p : Posology) → read forPlan greatestRoom input ≡ taken p → length (plain p) ≤ greatestLength
-taken-near input p e = let s = accepted-spells forPlan greatestRoom input p e in plain-within forPlan p (s .1 .1) (s .3)
+pub taken-near : (input : List ℕ) (p : Posology) → read (inGreatestRoom forPlan) input ≡ taken p → length (plain p) ≤ greatestLength
+taken-near input p e = let s = accepted-spells (inGreatestRoom forPlan) input p e in plain-within forPlan p (s .1 .1) (s .3)
 
 -- A text that was taken: its table and its strings are those of a posology that can be written.
 pub record Accepted (input : List ℕ) (t : Table) (text : List ℕ) : Type 0 where
@@ -88,30 +88,30 @@ pub record Accepted (input : List ℕ) (t : Table) (text : List ℕ) : Type 0 wh
   pub fits : Fits greatestRoom posology
   pub table : t ≡ tableOf posology
   pub strings-first : text ≡ strings posology ++ behind
-  pub is : read forPlan greatestRoom input ≡ taken posology
+  pub is : read (inGreatestRoom forPlan) input ≡ taken posology
 
 pub read-accepted : {input before after : List ℕ} {r : Reading} → Reads forPlan input before r after → length before ≡ greatestRoom → r .answer ≡ A.Taken → Accepted input (r .table) after
 read-accepted {input} {before} {after} {r} h l e =
     let room : roomOf (length before) ≡ greatestRoom = omega arith in
-    go (read forPlan greatestRoom input) refl (rw room at (h .answer)) (rw room at (h .table)) (rw room at (h .left))
+    go (read (inGreatestRoom forPlan) input) refl (rw room at (h .answer)) (rw room at (h .table)) (rw room at (h .left))
   where
-    go : (x : Read) → read forPlan greatestRoom input ≡ x → answerValues (r .answer) ≡ readValues x → r .table ≡ tableAfter x → after ≡ R.bufferAfter x before → Accepted input (r .table) after
+    go : (x : Read) → read (inGreatestRoom forPlan) input ≡ x → answerValues (r .answer) ≡ readValues x → r .table ≡ tableAfter x → after ≡ R.bufferAfter x before → Accepted input (r .table) after
     go (taken p) is a t b =
-        let s = accepted-spells forPlan greatestRoom input p is in
+        let s = accepted-spells (inGreatestRoom forPlan) input p is in
         record { posology = p; behind = drop (length (strings p)) before; is-valid = s .1; fits = s .3; table = t; strings-first = b; is = is }
     go (refused n place) is a t b = never (cc (sym a ∙ ap answerValues e))
 
 pub read-refused : {input before after : List ℕ} {r : Reading} {n place : ℕ} → Reads forPlan input before r after → length before ≡ greatestRoom → r .answer ≡ A.Refused n place
-    → read forPlan greatestRoom input ≡ refused n place
+    → read (inGreatestRoom forPlan) input ≡ refused n place
 read-refused {input} {before} {after} {r} {n} {place} h l e =
     let room : roomOf (length before) ≡ greatestRoom = omega arith in
-    go (read forPlan greatestRoom input) refl (rw room at (h .answer))
+    go (read (inGreatestRoom forPlan) input) refl (rw room at (h .answer))
   where
-    go : (x : Read) → read forPlan greatestRoom input ≡ x → answerValues (r .answer) ≡ readValues x → read forPlan greatestRoom input ≡ refused n place
+    go : (x : Read) → read (inGreatestRoom forPlan) input ≡ x → answerValues (r .answer) ≡ readValues x → read (inGreatestRoom forPlan) input ≡ refused n place
     go (taken p) is a = never (cc (sym a ∙ ap answerValues e))
     go (refused m at) is a = let both : number m at ≡ number n place = sym a ∙ ap answerValues e in is ∙ cc both
 
 -- The line, by what reading comes to.
-pub line-is : (buffer : ℕ) (input : List ℕ) (x : Read) → read forPlan greatestRoom input ≡ x → line buffer input ≡ lineOf buffer x
+pub line-is : (buffer : ℕ) (input : List ℕ) (x : Read) → read (inGreatestRoom forPlan) input ≡ x → line buffer input ≡ lineOf buffer x
 unfolding line
 line-is buffer input x e = ap (lineOf buffer) e

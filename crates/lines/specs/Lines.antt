@@ -6,7 +6,7 @@ use Rattle.document.specs.Bytes.{bytes}
 use Rattle.document.specs.Spell.{spell}
 use Rattle.document.specs.Plain.{plainThen, plain, whole, wholeDigits}
 use Rattle.document.specs.Answer.{Read, taken, refused, read}
-use Rattle.document.specs.Write.{Write, writes, refuses, fitting, greatestRoom}
+use Rattle.document.specs.Write.{Write, writes, refuses, fitting, inGreatestRoom}
 
 abbrev pub forPlan : ℕ
 forPlan = 1
@@ -32,4 +32,4 @@ lineOf buffer (refused n place) = refusalLine n place
 
 unfoldable pub line : ℕ → List ℕ → List ℕ
 unfolding read plainThen refusalLine
-line buffer input = lineOf buffer (read forPlan greatestRoom input)
+line buffer input = lineOf buffer (read (inGreatestRoom forPlan) input)

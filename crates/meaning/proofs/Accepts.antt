@@ -11,9 +11,10 @@ use borrow.Author.Tests.{le-leb}
 use Rattle.json.specs.Tree.{Tree, object, list, string, number, bool, null}
 use Rattle.document.specs.Posology.{Posology, Detail, daily, freeText, single, cyclic, sequence, SequenceObject, posologySequence, pause, SequenceObjects, noObject, objectThen}
 use Rattle.document.specs.Schema.{aPosology, anObject}
-use Rattle.document.specs.Visit.{Left, Outcome, done, visit, recordsAtMost}
+use Rattle.document.specs.Visit.{Left, State, start, Outcome, done, visit, recordsAtMost}
 use Rattle.document.specs.Valid.{valid, validFields, detailRecords, joined, given, detailStrings, objectStrings, objectsStrings, strings, Fits}
 use Rattle.document.specs.Spells.{meaningOf, meantMembers, Means}
+use Rattle.document.specs.declared.terms.Terms.{Terms}
 use Rattle.json.proofs.Truth.{and-both, and-left}
 use Rattle.meaning.proofs.Good.{detailText, objectText, objectsText, givenText, posologyText, Good}
 use Rattle.document.proofs.ValidParts.{few-records}
@@ -57,23 +58,20 @@ strings-length p =
     let e = given-length (p .moa) [] in
     omega arith
 
-abbrev start : ℕ → Left
-start room = record { records = recordsAtMost; room = room }
-
 -- A good posology is valid and fits, and the other way round.
-good-valid : (purpose room : ℕ) (p : Posology) (l : Left) → Good (anObject (aPosology purpose)) p (start room) l → (valid purpose p ≡ true) × Fits room p
+good-valid : (terms : Terms) (p : Posology) (l : Left) → Good (anObject (aPosology (terms .purpose))) p (start terms .left) l → (valid (terms .purpose) p ≡ true) × Fits (terms .room) p
 unfolding valid
-good-valid purpose room p l g =
+good-valid terms p l g =
     let a = g .takes .taken in let b = g .takes .used in let c = strings-length p in
     (and-both (g .valid) (le-leb (detailRecords (p .po)) recordsAtMost (omega arith)), omega arith)
 
-valid-good : (purpose room : ℕ) (p : Posology) → valid purpose p ≡ true → Fits room p → (l : Left) × Good (anObject (aPosology purpose)) p (start room) l
+valid-good : (terms : Terms) (p : Posology) → valid (terms .purpose) p ≡ true → Fits (terms .room) p → (l : Left) × Good (anObject (aPosology (terms .purpose))) p (start terms .left) l
 unfolding valid
-valid-good purpose room p v f =
-    let a = few-records purpose p v in
+valid-good terms p v f =
+    let a = few-records (terms .purpose) p v in
     let c = strings-length p in (
-      record { records = recordsAtMost - detailRecords (p .po); room = room - posologyText p },
-      record { valid = and-left (validFields purpose p) (leb (detailRecords (p .po)) recordsAtMost) v; takes = record { taken = omega arith; used = omega arith } },
+      record { records = recordsAtMost - detailRecords (p .po); room = terms .room - posologyText p },
+      record { valid = and-left (validFields (terms .purpose) p) (leb (detailRecords (p .po)) recordsAtMost) v; takes = record { taken = omega arith; used = omega arith } },
     )
 
 -- A root that means a posology for any use means it for use 3.
@@ -86,12 +84,12 @@ root-means (number q raw) purpose p m = absurd m
 root-means (bool q b) purpose p m = absurd m
 root-means (null q) purpose p m = absurd m
 
-pub taken-means : (t : Tree) → Utf8Tree t → (purpose room : ℕ) (p : Posology) (l : Left) → visit purpose room t ≡ done p l → Means t p × (valid purpose p ≡ true) × Fits room p
+pub taken-means : (t : Tree) → Utf8Tree t → (terms : Terms) (p : Posology) (l : State) → visit terms t ≡ done p l → Means t p × (valid (terms .purpose) p ≡ true) × Fits (terms .room) p
 unfolding visit
-taken-means t u purpose room p l e =
-    let g = subst (λ (r : Outcome Posology). All (λ x l′. Good (anObject (aPosology purpose)) x (start room) l′ × meaningOf t .means (anObject (aPosology purpose)) x) r) e (tree-sound t u .read (anObject (aPosology purpose)) (start room)) in
-    let v = good-valid purpose room p l (g .0) in
-    (root-means t purpose p (g .1), v .0, v .1)
+taken-means t u terms p l e =
+    let g = subst (λ (r : Outcome Posology). All (λ x l′. Good (anObject (aPosology (terms .purpose))) x (start terms .left) (l′ .left) × meaningOf t .means (anObject (aPosology (terms .purpose))) x) r) e (tree-sound t u .read (anObject (aPosology (terms .purpose))) (start terms)) in
+    let v = good-valid terms p (l .left) (g .0) in
+    (root-means t (terms .purpose) p (g .1), v .0, v .1)
 
-pub means-taken : (t : Tree) (purpose room : ℕ) (p : Posology) → Means t p → valid purpose p ≡ true → Fits room p → (l : Left) × (visit purpose room t ≡ done p l)
-means-taken t purpose room p m v f = let g = valid-good purpose room p v f in (g .0, visit-complete t purpose room p (g .0) m (g .1))
+pub means-taken : (t : Tree) (terms : Terms) (p : Posology) → Means t p → valid (terms .purpose) p ≡ true → Fits (terms .room) p → (l : State) × (visit terms t ≡ done p l)
+means-taken t terms p m v f = let g = valid-good terms p v f in let t′ = visit-complete t terms p (g .0) m (g .1) in (t′ .state, t′ .is)

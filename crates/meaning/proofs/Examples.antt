@@ -7,7 +7,7 @@ use Rattle.document.specs.Bytes.{bytes}
 use Rattle.document.specs.Valid.{detailRecords, strings}
 use Rattle.document.specs.Table.{tableOf}
 use Rattle.document.specs.Answer.{Read, taken, refused, read}
-use Rattle.document.specs.Write.{Write, writes, refuses, write}
+use Rattle.document.specs.Write.{Write, writes, refuses, write, greatestRoom, inGreatestRoom}
 
 infixl 60 _at_
 -- What the table's last column says.
@@ -49,7 +49,7 @@ table =
 
 abbrev pub answers : List Row → List Says
 answers [] = []
-answers (r ∷ rs) = says (read (r .purpose) 2048 (bytes (r .text))) ∷ answers rs
+answers (r ∷ rs) = says (read (inGreatestRoom (r .purpose)) (bytes (r .text))) ∷ answers rs
 
 abbrev pub lastColumn : List Row → List Says
 lastColumn [] = []
@@ -57,12 +57,12 @@ lastColumn (r ∷ rs) = r .answer ∷ lastColumn rs
 
 -- What the writer makes of what was read.
 abbrev pub written : ℕ → Read → Write
-written purpose (taken p) = write purpose (tableOf p) (strings p) 2048
+written purpose (taken p) = write purpose (tableOf p) (strings p) greatestRoom
 written purpose (refused n place) = refuses n place
 
 -- Every row of the table; and "The last is written ..".
 pub examples :
     (answers table ≡ lastColumn table)
-    × (written 1 (read 1 2048 (bytes last)) ≡ writes (bytes "{\"po\":{\"t\":4,\"cyDuU\":4,\"cyDu\":1,\"tdo\":{\"t\":1,\"do\":{\"t\":1,\"a\":1.5}}},\"unit\":\"TABL\"}"))
+    × (written 1 (read (inGreatestRoom 1) (bytes last)) ≡ writes (bytes "{\"po\":{\"t\":4,\"cyDuU\":4,\"cyDu\":1,\"tdo\":{\"t\":1,\"do\":{\"t\":1,\"a\":1.5}}},\"unit\":\"TABL\"}"))
 unfolding read write detailRecords strings tableOf
 examples = (refl, refl)

@@ -14,12 +14,13 @@ use Rattle.spelling.proofs.Trees.{leading-text}
 use Rattle.spelling.proofs.Spells as J
 use Rattle.document.specs.Posology.{Posology}
 use Rattle.document.specs.Same.{Reordered, an-object}
-use Rattle.document.specs.Visit.{Left, done, visit}
+use Rattle.document.specs.Visit.{State, done, visit}
 use Rattle.document.specs.Valid.{Valid, Fits, valid}
 use Rattle.document.specs.Spell.{spell}
 use Rattle.document.specs.Plain.{plain, plainThen, plainTree, membersOf, headSlots}
 use Rattle.document.specs.Answer.{taken, read, textAtMost, takenTo, readNext}
 use Rattle.document.specs.Write.{greatestRoom}
+use Rattle.document.specs.declared.terms.Terms.{Terms}
 use Rattle.meaning.proofs.Accepts.{means-taken}
 use Rattle.meaning.proofs.Reorder.{visit-reordered}
 use Rattle.meaning.proofs.PlainHead.{plain-means}
@@ -48,39 +49,40 @@ pub plain-place : (p : Posology) (k : List ℕ) → placeIn (plainThen p k) k �
 plain-place p k = let a = ap length (plain-then p k) in omega (arith, length-append (plain p) k)
 
 -- Its tree, and any reordered one, is not deep and is visited to its posology.
-plain-visited : (purpose room : ℕ) {t : Tree} (p : Posology) → valid purpose p ≡ true → Fits room p → Reordered (plainTree p) t → (depth t ≤ 20) × (l : Left) × (visit purpose room t ≡ done p l)
-plain-visited purpose room p v f o =
-    let m = means-taken (plainTree p) purpose room p (plain-means purpose p v) v f in
+plain-visited : (terms : Terms) {t : Tree} (p : Posology) → valid (terms .purpose) p ≡ true → Fits (terms .room) p → Reordered (plainTree p) t → (depth t ≤ 20) × (l : State) × (visit terms t ≡ done p l)
+plain-visited terms p v f o =
+    let m = means-taken (plainTree p) terms p (plain-means (terms .purpose) p v) v f in
     let d = reordered-depth o in
-    let e = plain-depth purpose p v in
-    (omega arith, m .0, visit-reordered o purpose room (m .1))
+    let e = plain-depth (terms .purpose) p v in
+    let r = visit-reordered o terms (m .1) in
+    (omega arith, r .state, r .is)
 
-pub plain-reads : (purpose room : ℕ) (p : Posology) → Valid purpose p → Fits greatestRoom p → Fits room p → read purpose room (plain p) ≡ taken p
-plain-reads purpose room p v f g =
-    let t = plain-leading purpose p [] (v .1) in
-    let m = plain-visited purpose room p (v .1) g (t .2) in
-    let s = plain-short purpose p [] (v .1) f in
+pub plain-reads : (terms : Terms) (p : Posology) → Valid (terms .purpose) p → Fits greatestRoom p → Fits (terms .room) p → read terms (plain p) ≡ taken p
+plain-reads terms p v f g =
+    let t = plain-leading (terms .purpose) p [] (v .1) in
+    let m = plain-visited terms p (v .1) g (t .2) in
+    let s = plain-short (terms .purpose) p [] (v .1) f in
     let c = J.complete (leading-text (t .1) G.here) (m .0) in
-    taken-read purpose room (plain p) p (record { for-use = v .0; short = omega arith; rest = c .0; walked = c .3; left = m .1; is = ap (λ (u : Tree). visit purpose room u) (c .4) ∙ m .2 })
+    taken-read terms (plain p) p (record { for-use = v .0; short = omega arith; rest = c .0; walked = c .3; state = m .1; is = ap (λ (u : Tree). visit terms u) (c .4) ∙ m .2 })
 
 -- At the beginning of a run.
-tree-next : (purpose room : ℕ) {s r : List ℕ} {t : Tree} (p : Posology)
-    → Valid purpose p → Fits room p → Reordered (plainTree p) t → Leading t s r → placeIn s r ≤ textAtMost → readNext purpose room s ≡ takenTo p (placeIn s r)
-tree-next purpose room {s} {r} {t} p v g o b near = let m = plain-visited purpose room p (v .1) g o in taken-next purpose room s t r p (m .1) (v .0) b (m .0) near (m .2)
+tree-next : (terms : Terms) {s r : List ℕ} {t : Tree} (p : Posology)
+    → Valid (terms .purpose) p → Fits (terms .room) p → Reordered (plainTree p) t → Leading t s r → placeIn s r ≤ textAtMost → readNext terms s ≡ takenTo p (placeIn s r)
+tree-next terms {s} {r} {t} p v g o b near = let m = plain-visited terms p (v .1) g o in taken-next terms s t r p (m .1) (v .0) b (m .0) near (m .2)
 
-pub plain-next : (purpose room : ℕ) (p : Posology) (k : List ℕ)
-    → Valid purpose p → Fits greatestRoom p → Fits room p → readNext purpose room (plainThen p k) ≡ takenTo p (length (plain p))
-plain-next purpose room p k v f g =
-    let t = plain-leading purpose p k (v .1) in
-    tree-next purpose room p v g (t .2) (t .1) (plain-short purpose p k (v .1) f) ∙ ap (takenTo p) (plain-place p k)
+pub plain-next : (terms : Terms) (p : Posology) (k : List ℕ)
+    → Valid (terms .purpose) p → Fits greatestRoom p → Fits (terms .room) p → readNext terms (plainThen p k) ≡ takenTo p (length (plain p))
+plain-next terms p k v f g =
+    let t = plain-leading (terms .purpose) p k (v .1) in
+    tree-next terms p v g (t .2) (t .1) (plain-short (terms .purpose) p k (v .1) f) ∙ ap (takenTo p) (plain-place p k)
 
 -- Any spelling of a tree that is a reordered one of what the plain text spells.
-pub reordered-plain-next : (purpose room : ℕ) {s r : List ℕ} {u t : Tree} (p : Posology)
-    → Valid purpose p → Fits room p → Text u (plain p) → Reordered u t → Leading t s r → placeIn s r ≤ textAtMost → readNext purpose room s ≡ takenTo p (placeIn s r)
-reordered-plain-next purpose room {u = u} p v g x o b near =
-    let l = plain-leading purpose p [] (v .1) in
+pub reordered-plain-next : (terms : Terms) {s r : List ℕ} {u t : Tree} (p : Posology)
+    → Valid (terms .purpose) p → Fits (terms .room) p → Text u (plain p) → Reordered u t → Leading t s r → placeIn s r ≤ textAtMost → readNext terms s ≡ takenTo p (placeIn s r)
+reordered-plain-next terms {u = u} p v g x o b near =
+    let l = plain-leading (terms .purpose) p [] (v .1) in
     let same : l .0 ≡ u = J.one-tree (leading-text (l .1) G.here) x in
-    tree-next purpose room p v g (reordered-then (subst (λ (w : Tree). Reordered (plainTree p) w) same (l .2)) o) b near
+    tree-next terms p v g (reordered-then (subst (λ (w : Tree). Reordered (plainTree p) w) same (l .2)) o) b near
 
 -- So is what the plain text itself spells in front of k: the places differ.
 pub plain-spells : (purpose : ℕ) (p : Posology) (k : List ℕ)

@@ -4,11 +4,9 @@ use mathlib.Core.Path.{_≡_, refl, sym, ap, subst, _∙_}
 use mathlib.Core.List.{List}
 use mathlib.Core.Bool.{true, false}
 use native.Mathlib.Omega.{arith}
-use lib.ListN.{length}
 use Rattle.document.specs.Values.{number, nextValues}
-use Rattle.document.specs.Answer.{Read, taken, refused, ReadNext, blankTo, upTo}
+use Rattle.document.specs.Answer.{Read, taken, refused, ReadNext, blankTo, upTo, termsOf}
 use Rattle.document.specs.Table.{emptyTable}
-use Rattle.document.specs.Valid.{roomOf}
 use Rattle.document.specs.declared.table.NextAnswer.{NextAnswer}
 use Rattle.document.specs.declared.table.NextAnswer.the-variants as N
 use Rattle.document.specs.declared.table.Table.{Table}
@@ -24,10 +22,10 @@ use Rattle.posology.specs.declared.next.NextWords.{NextWords}
 use Rattle.posology.proofs.Answers.{refused-values, taken-values, taken-table}
 
 pub reads-next : (purpose : ℕ) (run before : List ℕ) (f : FirstText) {w : NextWords} {ws after : List ℕ}
-    → f ≡ firstText purpose run → NextWordsOf (nextOn purpose (roomOf (length before)) run f) before w ws after → ReadsNextWords purpose run before w ws after
+    → f ≡ firstText purpose run → NextWordsOf (nextOn (termsOf purpose before) run f) before w ws after → ReadsNextWords purpose run before w ws after
 reads-next purpose run before f {w} {ws} {after} e g =
-    let room = roomOf (length before) in
-    subst (λ (x : ReadNext). NextWordsOf x before w ws after) (ap (nextOn purpose room run) e ∙ sym (next-on purpose room run)) g
+    let terms = termsOf purpose before in
+    subst (λ (x : ReadNext). NextWordsOf x before w ws after) (ap (nextOn terms run) e ∙ sym (next-on terms run)) g
 
 pub run-walked : (purpose : ℕ) (run : List ℕ) (e : ℕ) → F.Ends e ≡ firstText purpose run → Walked run
 run-walked purpose run e h = let w = first-walked purpose run e h in record { behind = w .0; takes = w .1 }

@@ -2,7 +2,6 @@
 use Prim.Native.Nat.{ℕ}
 use mathlib.Core.Path.{_≡_, refl, sym, ap, subst, _∙_}
 use mathlib.Core.List.{List}
-use native.Mathlib.Nat.{sub-zero}
 use native.Mathlib.Omega.{arith}
 use lib.ListN.{drop, length-drop}
 use Rattle.json.specs.Byte.{blanked}
@@ -15,11 +14,11 @@ use Rattle.spelling.proofs.Blanks.{over-blanks}
 use Rattle.spelling.proofs.Shorter.{value-shorter}
 use Rattle.spelling.proofs.Spells.{run-sound}
 use Rattle.document.specs.Schema.{anObject, aPosology}
-use Rattle.document.specs.Visit.{Value, entriesOf, members, visit}
+use Rattle.document.specs.Visit.{Value, entriesOf, members, start, visit}
+use Rattle.document.specs.declared.terms.Terms.{Terms}
 use Rattle.meaning.proofs.Sound.{Utf8Tree}
 use Rattle.meaning.proofs.Utf8Texts.{value-utf8}
 use Rattle.document.specs.At.{At}
-use Rattle.dosages.specs.Visiting.{leftOf}
 
 -- What the walk tells of a text.
 pub record Standing (text : List ℕ) (brace : ℕ) : Type 0 where
@@ -53,9 +52,7 @@ pub standing : (text : List ℕ) (brace : ℕ) (behind : List ℕ) → firstObje
 standing text brace behind w d = behind-blanks text brace (treeOf text) behind refl d (run-sound w .0)
 
 -- Visiting the tree is visiting the object's members.
-pub visit-is : (purpose room : ℕ) (text : List ℕ) (brace : ℕ) (s : Standing text brace)
-    → visit purpose room (treeOf text) ≡ members (aPosology purpose) (s .place) (entriesOf (s .inner)) (leftOf room (record { records = 0; text = 0 }))
+pub visit-is : (terms : Terms) (text : List ℕ) (brace : ℕ) (s : Standing text brace)
+    → visit terms (treeOf text) ≡ members (aPosology (terms .purpose)) (s .place) (entriesOf (s .inner)) (start terms)
 unfolding visit
-visit-is purpose room text brace s =
-    ap (λ (t : Tree). visit purpose room t) (s .tree)
-    ∙ ap (λ (n : ℕ). members (aPosology purpose) (s .place) (entriesOf (s .inner)) (record { records = 64; room = n })) (sym (sub-zero room))
+visit-is terms text brace s = ap (λ (t : Tree). visit terms t) (s .tree)

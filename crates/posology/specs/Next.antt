@@ -4,9 +4,8 @@ use mathlib.Core.Path.{_≡_}
 use mathlib.Core.List.{List}
 use lib.ListN.{length}
 use Rattle.document.specs.Values.{nextValues}
-use Rattle.document.specs.Answer.{ReadNext, readNext, readNextValues, nextTableAfter, nextBufferAfter}
+use Rattle.document.specs.Answer.{ReadNext, readNext, termsOf, readNextValues, nextTableAfter, nextBufferAfter}
 use Rattle.document.specs.Table.{emptyTable}
-use Rattle.document.specs.Valid.{roomOf}
 use Rattle.document.specs.declared.table.NextAnswer.{NextAnswer}
 use Rattle.document.specs.declared.table.NextAnswer.the-variants as N
 use Rattle.document.specs.declared.table.Table.{Table}
@@ -29,4 +28,4 @@ pub record NextWordsOf (x : ReadNext) (before : List ℕ) (w : NextWords) (ws af
   pub left : after ≡ nextBufferAfter x before
 
 abbrev pub ReadsNextWords : ℕ → List ℕ → List ℕ → NextWords → List ℕ → List ℕ → Type 0
-ReadsNextWords purpose run before w ws after = NextWordsOf (readNext purpose (roomOf (length before)) run) before w ws after
+ReadsNextWords purpose run before w ws after = NextWordsOf (readNext (termsOf purpose before) run) before w ws after

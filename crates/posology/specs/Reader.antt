@@ -7,9 +7,8 @@ use lib.ListN.{length}
 use Rattle.json.specs.Tree.{Place}
 use Rattle.json.specs.Walk.{end, firstObject}
 use Rattle.document.specs.Values.{Values, accepted, number}
-use Rattle.document.specs.Answer.{Read, read, readValues, tableAfter, bufferAfter}
+use Rattle.document.specs.Answer.{Read, read, termsOf, readValues, tableAfter, bufferAfter}
 use Rattle.document.specs.Table.{emptyTable}
-use Rattle.document.specs.Valid.{roomOf}
 use Rattle.document.specs.declared.table.Table.{Table}
 use Rattle.records.specs.declared.read.HeadRead.{HeadRead}
 use Rattle.building.specs.Built.{built}
@@ -30,7 +29,7 @@ pub record WordsOf (x : Read) (before : List ℕ) (h : HeadRead) (ws after : Lis
 
 -- A text was read as far as them: they make the answer and the table that document 01 asks for.
 abbrev pub ReadsWords : ℕ → List ℕ → List ℕ → HeadRead → List ℕ → List ℕ → Type 0
-ReadsWords purpose text before h ws after = WordsOf (read purpose (roomOf (length before)) text) before h ws after
+ReadsWords purpose text before h ws after = WordsOf (read (termsOf purpose before) text) before h ws after
 
 -- A text that the walk took: its object stands behind the blanks at its start.
 pub record Walked (text : List ℕ) : Type 0 where

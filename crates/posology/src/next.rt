@@ -9,11 +9,9 @@ use texts::FirstText;
 ghost use mathlib.Core.Path.{_≡_};
 ghost use mathlib.Core.List.{List};
 ghost use Prim.Native.Nat.{ℕ};
-ghost use lib.ListN.{length};
 ghost use Rattle.document.specs.Values.{nextValues};
-ghost use Rattle.document.specs.Answer.{ReadsNext, refusedAt, readNextValues, upTo, readWalked};
+ghost use Rattle.document.specs.Answer.{ReadsNext, refusedAt, readNextValues, upTo, termsOf, readWalked};
 ghost use Rattle.document.specs.Table.{emptyTable};
-ghost use Rattle.document.specs.Valid.{roomOf};
 ghost use Rattle.posology.specs.Reader.{Walked};
 ghost use Rattle.posology.specs.Next.{nextWordsTable, NextWordsOf, ReadsNextWords};
 
@@ -45,7 +43,7 @@ fn taken(
     words: &mut [u64; WORDS],
 ) -> NextWords
     requires { ⌜ Walked (now run) ⌝ }
-    ensures { λ r. ⌜ NextWordsOf (upTo e (readWalked purpose (roomOf (length (now (strings .entry)))) (now (run .entry)))) (now (strings .entry)) r (now (words .exit)) (now (strings .exit)) ⌝ }
+    ensures { λ r. ⌜ NextWordsOf (upTo e (readWalked (termsOf purpose (now (strings .entry))) (now (run .entry)))) (now (strings .entry)) r (now (words .exit)) (now (strings .exit)) ⌝ }
 {
     let h = reader::walked_words(run, purpose, strings, words);
     if h.refused {

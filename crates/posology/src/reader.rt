@@ -10,13 +10,15 @@ use document::table::TEXT_ROOM;
 use document::table::Table;
 use document::table::Text;
 use document::table::WORDS;
+use document::terms;
+use document::terms::Terms;
 use heads::head;
 use records::read::HeadRead;
 use texts::OneText;
 ghost use mathlib.Core.Path.{_≡_};
 ghost use lib.ListN.{length};
 ghost use Rattle.document.specs.Values.{answerValues};
-ghost use Rattle.document.specs.Answer.{Reads, readWalked};
+ghost use Rattle.document.specs.Answer.{Reads, termsOf, readWalked};
 ghost use Rattle.document.specs.Table.{emptyTable, noText};
 ghost use Rattle.document.specs.Valid.{roomOf};
 ghost use Rattle.posology.specs.Reader.{Walked, wordsValues, wordsTable, WordsOf, ReadsWords};
@@ -68,10 +70,14 @@ pub(crate) fn walked_words(
     words: &mut [u64; WORDS],
 ) -> HeadRead
     requires { ⌜ Walked (now text) ⌝ }
-    ensures { λ r. ⌜ WordsOf (readWalked purpose (roomOf (length (now (strings .entry)))) (now (text .entry))) (now (strings .entry)) r (now (words .exit)) (now (strings .exit)) ⌝ }
+    ensures { λ r. ⌜ WordsOf (readWalked (termsOf purpose (now (strings .entry))) (now (text .entry))) (now (strings .entry)) r (now (words .exit)) (now (strings .exit)) ⌝ }
 {
     let brace = scan::byte::blanks_end(text, 0);
-    let h = head::read_head(text, brace, purpose, room_of(strings), words);
+    let terms = Terms {
+        purpose: purpose,
+        room: room_of(strings),
+    };
+    let h = head::read_head(text, brace, terms, terms::none_used(), words);
     if h.refused {
         return h;
     }

@@ -1,6 +1,6 @@
 // A posology's head as it is read (document 01, "Objects": Posology): of it and of the records' words the table is made.
-use crate::rows::Used;
 use document::table::Date;
+use document::terms::Used;
 
 // A string of the head: its quote in the text, and its bytes in the buffer to come.
 pub struct Piece {

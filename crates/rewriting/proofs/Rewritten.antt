@@ -5,13 +5,13 @@ use mathlib.Core.List.{List, _++_}
 use mathlib.Core.Bool.{true, false}
 use lib.ListN.{length, drop}
 use Rattle.json.proofs.Truth.{never}
-use Rattle.document.specs.Valid.{roomOf, strings}
+use Rattle.document.specs.Valid.{strings}
 use Rattle.document.specs.Table.{tableOf}
 use Rattle.document.specs.Words.{width, wordsAtMost, allWords, rows}
 use Rattle.document.specs.Values.{accepted, ends, number, writingValues}
 use Rattle.document.specs.Answer as A
-use Rattle.document.specs.Answer.{Read, taken, refused, read, readValues, tableAfter}
-use Rattle.document.specs.Write.{Write, writeValues, bufferAfter, greatestRoom}
+use Rattle.document.specs.Answer.{Read, taken, refused, read, readValues, tableAfter, inRoom}
+use Rattle.document.specs.Write.{Write, writeValues, bufferAfter, inGreatestRoom}
 use Rattle.document.specs.Length.{greatestLength}
 use Rattle.document.specs.declared.table.Head.{Head}
 use Rattle.document.specs.declared.table.Writing.{Writing}
@@ -30,7 +30,7 @@ use Rattle.rewriting.proofs.PlainPut.{Printed, plain-put}
 pub tidied-length : {tidied : List ℕ} (n : ℕ) (ws : List ℕ) → tidied ≡ rows (allWords (recordsIn n ws)) → wordsAtMost ≡ length tidied
 tidied-length n ws e = sym (ap length e ∙ records-length (recordsIn n ws) ∙ ap (λ (k : ℕ). k * width) (in-length n ws))
 
-rewrites : {purpose : ℕ} {text before after : List ℕ} {r : Writing} {x : Read} → read purpose greatestRoom text ≡ x
+rewrites : {purpose : ℕ} {text before after : List ℕ} {r : Writing} {x : Read} → read (inGreatestRoom purpose) text ≡ x
     → writingValues r ≡ writeValues (plainOfRead x) → after ≡ bufferAfter (plainOfRead x) before → Rewrites purpose text before r after
 unfolding rewritten
 rewrites {before = before} e a l =
@@ -39,13 +39,13 @@ rewrites {before = before} e a l =
 
 module _ (purpose : ℕ) (text lent : List ℕ) (h : HeadRead) (ws buffer : List ℕ) (room : length lent ≡ 2048)
     (reads : ReadsWords purpose text lent h ws buffer) where
-  words : WordsOf (read purpose greatestRoom text) lent h ws buffer
-  words = subst (λ (n : ℕ). WordsOf (read purpose (roomOf n) text) lent h ws buffer) room reads
+  words : WordsOf (read (inGreatestRoom purpose) text) lent h ws buffer
+  words = subst (λ (n : ℕ). WordsOf (read (inRoom purpose n) text) lent h ws buffer) room reads
 
   pub refused-rewritten : (before : List ℕ) → h .refused ≡ true → Rewrites purpose text before (Refused (h .number) (h .place)) before
-  refused-rewritten before e = go (read purpose greatestRoom text) refl (sym (refused-values h ws e) ∙ words .answer)
+  refused-rewritten before e = go (read (inGreatestRoom purpose) text) refl (sym (refused-values h ws e) ∙ words .answer)
     where
-      go : (x : Read) → read purpose greatestRoom text ≡ x → number (h .number) (h .place) ≡ readValues x
+      go : (x : Read) → read (inGreatestRoom purpose) text ≡ x → number (h .number) (h .place) ≡ readValues x
           → Rewrites purpose text before (Refused (h .number) (h .place)) before
       go (taken p) i a = never (cc a)
       go (refused n place) i a = rewrites i a refl
@@ -55,11 +55,11 @@ module _ (purpose : ℕ) (text lent : List ℕ) (h : HeadRead) (ws buffer : List
       → Printed head tidied buffer before r after → Rewrites purpose text before (Written r) after
   unfolding built
   taken-rewritten {before = before} {after} {r = r} e tidy top size printed =
-      go (read purpose greatestRoom text) refl (sym (taken-values h ws e) ∙ words .answer)
+      go (read (inGreatestRoom purpose) text) refl (sym (taken-values h ws e) ∙ words .answer)
     where
-      go : (x : Read) → read purpose greatestRoom text ≡ x → accepted ≡ readValues x → Rewrites purpose text before (Written r) after
+      go : (x : Read) → read (inGreatestRoom purpose) text ≡ x → accepted ≡ readValues x → Rewrites purpose text before (Written r) after
       go (taken p) i a =
-          let good = accepted-spells purpose greatestRoom text p i in
+          let good = accepted-spells (inGreatestRoom purpose) text p i in
           let made : built h ws ≡ tableOf p = sym (taken-table h ws e) ∙ words .table ∙ ap tableAfter i in
           let first : buffer ≡ strings p ++ drop (length (strings p)) lent = words .left ∙ ap (λ (x : Read). A.bufferAfter x lent) i in
           let put =

@@ -4,7 +4,7 @@ use mathlib.Core.List.{List}
 use Prim.Native.Nat.{ℕ}
 use Rattle.document.specs.Plain.{plain}
 use Rattle.document.specs.Answer.{Read, taken, refused, read}
-use Rattle.document.specs.Write.{Write, writes, refuses, writeValues, bufferAfter, greatestRoom}
+use Rattle.document.specs.Write.{Write, writes, refuses, writeValues, bufferAfter, inGreatestRoom}
 use Rattle.document.specs.Values.{writingValues}
 use Rattle.document.specs.declared.table.Writing.{Writing}
 
@@ -13,7 +13,7 @@ plainOfRead (taken p) = writes (plain p)
 plainOfRead (refused n place) = refuses n place
 
 unfoldable pub rewritten : ℕ → List ℕ → Write
-rewritten purpose text = plainOfRead (read purpose greatestRoom text)
+rewritten purpose text = plainOfRead (read (inGreatestRoom purpose) text)
 
 -- The promise: a refusal leaves each byte of the buffer.
 pub record Rewrites (purpose : ℕ) (text before : List ℕ) (r : Writing) (after : List ℕ) : Type 0 where

@@ -11,10 +11,9 @@ use lib.Seq.{take-at, drop-drop}
 use Rattle.json.specs.Rows.{choose}
 use Rattle.json.proofs.Truth.{cond-true, cond-false, never}
 use Rattle.document.specs.Posology.{Posology}
-use Rattle.document.specs.Valid.{roomOf}
 use Rattle.document.specs.Plain.{plain}
 use Rattle.document.specs.Answer as R
-use Rattle.document.specs.Answer.{Read, read, readValues, tableAfter, bufferAfter, Reads}
+use Rattle.document.specs.Answer.{Read, read, readValues, tableAfter, bufferAfter, Reads, inRoom}
 use Rattle.document.specs.Table.{emptyTable}
 use Rattle.document.specs.Values as Values
 use Rattle.document.specs.declared.table.Reading.{Reading}
@@ -78,7 +77,7 @@ pub record FoundText (a : List ℕ) (number from to : ℕ) : Type 0 where
   pub ordered : from ≤ to
   pub inside : to ≤ length a
   pub text : take (to - from) (drop from a) ≡ plain posology
-  pub reads : (room : ℕ) → fetchedFrom a number room ≡ read bothUses (roomOf room) (plain posology)
+  pub reads : (room : ℕ) → fetchedFrom a number room ≡ read (inRoom bothUses room) (plain posology)
 
 text-in : (e : Entry) (k : List ℕ) → take (length (plain (e .posology))) (drop 6 (recordThen e k)) ≡ plain (e .posology)
 unfolding recordThen
@@ -161,8 +160,8 @@ pub fetches : (a : List ℕ) (num from to : ℕ) {before after : List ℕ} {r : 
     → Reads bothUses (take (to - from) (drop from a)) before r after → Fetches num a before r after
 fetches a num from to {before} e h =
     let t = found-text a num from to e in
-    let same : read bothUses (roomOf (length before)) (take (to - from) (drop from a)) ≡ fetchedFrom a num (length before) =
-    ap (read bothUses (roomOf (length before))) (t .text) ∙ sym (t .reads (length before)) in
+    let same : read (inRoom bothUses (length before)) (take (to - from) (drop from a)) ≡ fetchedFrom a num (length before) =
+    ap (read (inRoom bothUses (length before))) (t .text) ∙ sym (t .reads (length before)) in
     record {
       answer = h .answer ∙ ap readValues same;
       table = h .table ∙ ap tableAfter same;

@@ -11,7 +11,7 @@ use Rattle.document.specs.Lookup.{same}
 use Rattle.document.specs.Posology.{Posology}
 use Rattle.document.specs.Plain.{plain}
 use Rattle.document.specs.Answer.{Read, taken, refused, read}
-use Rattle.document.specs.Write.{greatestRoom}
+use Rattle.document.specs.Write.{inGreatestRoom}
 use Rattle.document.specs.Length.{greatestLength}
 use Rattle.document.specs.declared.table.Writing.the-variants as W
 use Rattle.meaning.proofs.Lengths.{plain-within}
@@ -38,7 +38,7 @@ too-long-for-plain text l = never-true (isPlain text) (go (plainOf text) refl)
         let n = ap length (i .text-is) in
         omega arith
 
-plain-of-read : (text : List ℕ) (r : Read) → read bothUses greatestRoom text ≡ r → isPlain text ≡ isGiven (ifPlain text r)
+plain-of-read : (text : List ℕ) (r : Read) → read (inGreatestRoom bothUses) text ≡ r → isPlain text ≡ isGiven (ifPlain text r)
 unfolding plainOf
 plain-of-read text r e = ap (λ (x : Read). isGiven (ifPlain text x)) e
 

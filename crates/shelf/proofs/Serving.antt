@@ -15,7 +15,7 @@ use Rattle.document.specs.Posology.{Posology}
 use Rattle.document.specs.Plain.{plain}
 use Rattle.document.specs.Answer as R
 use Rattle.document.specs.Answer.{read}
-use Rattle.document.specs.Write.{greatestRoom}
+use Rattle.document.specs.Write.{inGreatestRoom}
 use Rattle.meaning.proofs.Lengths.{plain-within}
 use Rattle.rewriting.proofs.Reread.{ReadAs}
 use Rattle.shelf_list.specs.Shelf.{bothUses, Entry, entry, isNumber, twoBytes, recordThen, size, used, laidOut, stands, Holds, entriesIn}
@@ -105,7 +105,7 @@ puts-no-other a es number purpose text h i s e =
     refuses e (answer-on-shelf (put number purpose text) a es h ∙ gives-22 (length a) es (for-put i s))
 
 pub puts-unread : (a : List ℕ) (es : List Entry) (number purpose : ℕ) (text : List ℕ) {r : Answer} {m place : ℕ} → Holds a es
-    → isNumber number ≡ true → stands number es ≡ false → read purpose greatestRoom text ≡ R.refused m place → r ≡ refused m place
+    → isNumber number ≡ true → stands number es ≡ false → read (inGreatestRoom purpose) text ≡ R.refused m place → r ≡ refused m place
     → Serves (put number purpose text) a r a
 puts-unread a es number purpose text h i s k e =
     refuses e (answer-on-shelf (put number purpose text) a es h ∙ gives-reading (length a) es (text-put i s k))
@@ -122,14 +122,14 @@ record-bytes number p l m =
     ∙ ap (twoBytes number) (two-bytes (length (plain p)) (plain p) m ∙ ap (twoBytes (length (plain p))) (sym (append-nil (plain p)))))
 
 on-list-put : (n : ℕ) (es : List Entry) (number purpose : ℕ) (text : List ℕ) (p : Posology) → isNumber number ≡ true
-    → stands number es ≡ false → read purpose greatestRoom text ≡ R.taken p → roomFor n es (entry number p) ≡ true
+    → stands number es ≡ false → read (inGreatestRoom purpose) text ≡ R.taken p → roomFor n es (entry number p) ≡ true
     → onList n (put number purpose text) es ≡ answers (stored (length (plain p))) (es ++ (entry number p ∷ []))
 unfolding onList
 on-list-put n es number purpose text p i s e r = rw (i, s, e, r)
 
 -- A record is stored behind the last one, or there is no room for it.
 module _ (a after : List ℕ) (es : List Entry) (number purpose : ℕ) (text : List ℕ) (p : Posology) (r : PutAnswer)
-    (h : Holds a es) (i : isNumber number ≡ true) (s : stands number es ≡ false) (k : read purpose greatestRoom text ≡ R.taken p)
+    (h : Holds a es) (i : isNumber number ≡ true) (s : stands number es ≡ false) (k : read (inGreatestRoom purpose) text ≡ R.taken p)
     (st : StoresPlain number (used es) (plain p) a r after) where
   with-room : hasRoom (used es) (plain p) a ≡ true → Serves (put number purpose text) a (putAnswer r) after
   with-room e =

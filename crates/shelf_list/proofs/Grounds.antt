@@ -11,14 +11,13 @@ use borrow.Author.Tests.{leb-true, le-leb, leb-false, lt-leb}
 use Rattle.json.specs.Rows.{choose}
 use Rattle.json.proofs.Truth.{never}
 use Rattle.document.specs.Posology.{Posology}
-use Rattle.document.specs.Valid.{roomOf}
 use Rattle.document.specs.Plain.{plain}
 use Rattle.document.specs.Answer as R
 use Rattle.document.specs.Answer.{Read, read}
-use Rattle.document.specs.Write.{greatestRoom}
+use Rattle.document.specs.Write.{inGreatestRoom}
 use Rattle.demands.proofs.Refusals.{refusals-of-read}
-use Rattle.shelf_list.specs.Shelf.{Entry, entry, isNumber, bothUses, size, used}
-use Rattle.shelf_list.specs.Calls.{Call, put, fetch, remove, at, Answer, stored, fetched, removed, standing, refused, Outcome, under, fetchUnder, fetchFrom, fetchAnswer, onList}
+use Rattle.shelf_list.specs.Shelf.{Entry, entry, isNumber, size, used}
+use Rattle.shelf_list.specs.Calls.{Call, put, fetch, remove, at, Answer, stored, fetched, removed, standing, refused, Outcome, under, fetchUnder, fetchFrom, fetchAnswer, onList, forFetch}
 use Rattle.shelf_list.specs.Grounds.{NoNumber, put-under, fetch-from, remove-from, AlreadyThere, for-put, NotThere, for-fetch, for-remove, NotRead, text-put, text-fetched, NoRoom, too-long, Taken, put-taken}
 use Rattle.shelf_list.proofs.Under.{none-under, under-none}
 use Rattle.shelf_list.proofs.Ends.{Put, no-number, there, unread, no-room, laid, put-ends, Remove, not-number, not-there, taken-out, remove-ends}
@@ -49,7 +48,7 @@ put-ground {n} {es} {number} (laid {p = p} i s e r) = storing (put-taken i s e (
 fetch-ground : (n : ℕ) (es : List Entry) (number room : ℕ) → Ground n es (fetch number room) (fetchAnswer (fetchFrom es number room))
 fetch-ground n es number room = go (isNumber number) (under number es) refl refl
   where
-    reads : (p : Posology) (r : Read) → isNumber number ≡ true → under number es ≡ some p → read bothUses (roomOf room) (plain p) ≡ r
+    reads : (p : Posology) (r : Read) → isNumber number ≡ true → under number es ≡ some p → read (forFetch room) (plain p) ≡ r
         → Ground n es (fetch number room) (fetchAnswer r)
     reads p (R.taken q) i u e = fetching
     reads p (R.refused m place) i u e = refusing (of-reading (text-fetched i u e))
@@ -57,7 +56,7 @@ fetch-ground n es number room = go (isNumber number) (under number es) refl refl
     go : (b : Bool) (o : Option Posology) → isNumber number ≡ b → under number es ≡ o
         → Ground n es (fetch number room) (fetchAnswer (choose b (λ _. fetchUnder o room) (λ _. R.refused 21 0)))
     go true none i u = refusing (of-23 (for-fetch i (none-under number es u)))
-    go true (some p) i u = reads p (read bothUses (roomOf room) (plain p)) i u refl
+    go true (some p) i u = reads p (read (forFetch room) (plain p)) i u refl
     go false o i u = refusing (of-21 (fetch-from i))
 
 remove-ground : {n number : ℕ} {es : List Entry} {o : Outcome (List Entry)} → Remove es number o → Ground n es (remove number) (o .answer)
@@ -93,8 +92,8 @@ stored-by telling e = never (cc e)
 -- Reading refuses by 1 to 17 alone: 20 to 24 are the shelf's own.
 reading-low : {es : List Entry} {m place : ℕ} {c : Call} → NotRead es m place c → (1 ≤ m) × (m ≤ 17)
 reading-low {m = m} {place = place} (text-put {purpose = purpose} {text = text} i s e) =
-    refusals-of-read purpose greatestRoom text m place e
-reading-low {m = m} {place = place} (text-fetched {room = room} {p = p} i u e) = refusals-of-read bothUses (roomOf room) (plain p) m place e
+    refusals-of-read (inGreatestRoom purpose) text m place e
+reading-low {m = m} {place = place} (text-fetched {room = room} {p = p} i u e) = refusals-of-read (forFetch room) (plain p) m place e
 
 module _ {n : ℕ} {es : List Entry} {c : Call} where
   pub numbers : {m place : ℕ} → Refusal n es c m place → ((1 ≤ m) × (m ≤ 17)) ⊎ ((21 ≤ m) × (m ≤ 24))
@@ -170,9 +169,9 @@ gives-stored n es (put-taken {number = number} {p = p} i s e r k) = rw (i, s, e,
 
 -- The posology of a put is the one that its text reads to.
 pub short-as-read : {n : ℕ} {es : List Entry} {number purpose : ℕ} {text : List ℕ} {p : Posology}
-    → read purpose greatestRoom text ≡ R.taken p → NoRoom n es (put number purpose text) → n - used es < 6 + length (plain p)
+    → read (inGreatestRoom purpose) text ≡ R.taken p → NoRoom n es (put number purpose text) → n - used es < 6 + length (plain p)
 short-as-read {p = p} e (too-long {p = q} i s f l) = let d : q ≡ p = cc (e, f) in rw d at l
 
 pub long-as-read : {n : ℕ} {es : List Entry} {l number purpose : ℕ} {text : List ℕ} {p : Posology}
-    → read purpose greatestRoom text ≡ R.taken p → Taken n es l (put number purpose text) → l ≡ length (plain p)
+    → read (inGreatestRoom purpose) text ≡ R.taken p → Taken n es l (put number purpose text) → l ≡ length (plain p)
 long-as-read {p = p} e (put-taken {p = q} i s f r k) = let d : q ≡ p = cc (e, f) in rw d at k

@@ -12,7 +12,7 @@ use Rattle.document.specs.Posology.{Posology}
 use Rattle.document.specs.Valid.{every}
 use Rattle.document.specs.Answer as R
 use Rattle.document.specs.Answer.{read}
-use Rattle.document.specs.Write.{greatestRoom}
+use Rattle.document.specs.Write.{inGreatestRoom}
 use Rattle.meaning.proofs.Spelled.{accepted-spells}
 use Rattle.shelf_list.specs.Shelf.{Entry, entry, isNumber, size, used, stands, once, goodEntry, good}
 use Rattle.shelf_list.specs.Calls.{Call, put, fetch, remove, at, Outcome, refused, without, roomFor, onList}
@@ -134,10 +134,10 @@ fitting-without n number es f =
     record { is-good = and-both (every-without number es each) (once-without number es single); fits = omega arith }
 
 -- What is read for either use is good to store.
-pub read-good : (number purpose : ℕ) (text : List ℕ) (p : Posology) → isNumber number ≡ true → read purpose greatestRoom text ≡ R.taken p
+pub read-good : (number purpose : ℕ) (text : List ℕ) (p : Posology) → isNumber number ≡ true → read (inGreatestRoom purpose) text ≡ R.taken p
     → goodEntry (entry number p) ≡ true
 read-good number purpose text p i e =
-    let a = accepted-spells purpose greatestRoom text p e in
+    let a = accepted-spells (inGreatestRoom purpose) text p e in
     let n = number-parts number i in
     parts-good (entry number p) (record { least = n .0; most = n .1; is-valid = valid-for-both purpose p (a .1); fits = a .3 })
 

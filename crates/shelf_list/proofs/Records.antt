@@ -15,7 +15,7 @@ use Rattle.document.specs.Posology.{Posology}
 use Rattle.document.specs.Valid.{Fits, valid, strings, every}
 use Rattle.document.specs.Plain.{plain}
 use Rattle.document.specs.Answer.{Read, taken, refused, read}
-use Rattle.document.specs.Write.{greatestRoom}
+use Rattle.document.specs.Write.{greatestRoom, inGreatestRoom}
 use Rattle.document.proofs.Same.{same-refl, same-equal}
 use Rattle.meaning.proofs.Spelled.{accepted-spells}
 use Rattle.meaning.proofs.PlainTexts.{plain-reads}
@@ -56,7 +56,7 @@ good-once es g = and-right (every goodEntry es) (once es) g
 pub plain-of-plain : (p : Posology) → valid bothUses p ≡ true → Fits greatestRoom p → plainOf (plain p) ≡ some p
 unfolding plainOf
 plain-of-plain p v f =
-    ap (ifPlain (plain p)) (plain-reads bothUses greatestRoom p (refl, v) f f)
+    ap (ifPlain (plain p)) (plain-reads (inGreatestRoom bothUses) p (refl, v) f f)
     ∙ cond-true (same (plain p) (plain p)) (some p) none (same-refl (plain p))
 
 pub record IsPlain (text : List ℕ) (p : Posology) : Type 0 where
@@ -66,16 +66,16 @@ pub record IsPlain (text : List ℕ) (p : Posology) : Type 0 where
 
 pub plain-of-text : (text : List ℕ) (p : Posology) → plainOf text ≡ some p → IsPlain text p
 unfolding plainOf
-plain-of-text text p h = go (read bothUses greatestRoom text) refl h
+plain-of-text text p h = go (read (inGreatestRoom bothUses) text) refl h
   where
     same-then : (q : Posology) (b : Bool) → same (plain q) text ≡ b → cond b (some q) none ≡ some p → (plain q ≡ text) × (q ≡ p)
     same-then q true s e = (same-equal (plain q) text s, cc)
     same-then q false s e = never (cc)
 
-    go : (r : Read) → read bothUses greatestRoom text ≡ r → ifPlain text r ≡ some p → IsPlain text p
+    go : (r : Read) → read (inGreatestRoom bothUses) text ≡ r → ifPlain text r ≡ some p → IsPlain text p
     go (taken q) e k =
         let s = same-then q (same (plain q) text) refl k in
-        let a = accepted-spells bothUses greatestRoom text q e in
+        let a = accepted-spells (inGreatestRoom bothUses) text q e in
         subst (λ (x : Posology). IsPlain text x) (s .1) (record { text-is = s .0; is-valid = a .1 .1; fits = a .3 })
     go (refused n place) e k = never (cc)
 

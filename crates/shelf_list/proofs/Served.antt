@@ -12,7 +12,7 @@ use Rattle.document.specs.Valid.{Fits, roomOf}
 use Rattle.document.specs.Plain.{plain}
 use Rattle.document.specs.Answer as R
 use Rattle.document.specs.Answer.{read}
-use Rattle.document.specs.Write.{greatestRoom}
+use Rattle.document.specs.Write.{inGreatestRoom}
 use Rattle.shelf_list.specs.Shelf.{Entry, Holds, entriesIn}
 use Rattle.shelf_list.specs.Calls.{Call, put, fetch, remove, Answer, stored, refused, Outcome, under, onList, laidAgain, onEntries, onArea, fetchAnswer, fetchIn, fetchedFrom}
 use Rattle.shelf_list.proofs.Records.{good-each}
@@ -105,7 +105,7 @@ fetch-reads number room a = go (entriesIn a)
 
 pub put-then-fetched : (number purpose room : ℕ) (text a : List ℕ) (p : Posology) (l : ℕ)
     → onArea (put number purpose text) a .answer ≡ stored l
-    → read purpose greatestRoom text ≡ R.taken p → Fits (roomOf room) p
+    → read (inGreatestRoom purpose) text ≡ R.taken p → Fits (roomOf room) p
     → fetchedFrom (onArea (put number purpose text) a .state) number room ≡ R.taken p
 unfolding fetchedFrom
 put-then-fetched number purpose room text a p l s e g =
@@ -120,7 +120,7 @@ put-then-fetched number purpose room text a p l s e g =
     ∙ put-then-fetch n es number purpose room text p l (x .2) e g
 
 pub freed-on-area : (a : List ℕ) (es : List Entry) (number other purpose : ℕ) (text : List ℕ) (p q : Posology) → Holds a es
-    → under number es ≡ some p → read purpose greatestRoom text ≡ R.taken q → length (plain q) ≤ length (plain p)
+    → under number es ≡ some p → read (inGreatestRoom purpose) text ≡ R.taken q → length (plain q) ≤ length (plain p)
     → (place : ℕ) → onArea (put other purpose text) (onArea (remove number) a .state) .answer ≡ refused 24 place → ⊥
 freed-on-area a es number other purpose text p q h u e l place k =
     let n = length a in

@@ -14,11 +14,11 @@ use Rattle.document.specs.Valid.{Fits, roomOf, every}
 use Rattle.document.specs.Plain.{plain}
 use Rattle.document.specs.Answer as R
 use Rattle.document.specs.Answer.{read}
-use Rattle.document.specs.Write.{greatestRoom}
+use Rattle.document.specs.Write.{inGreatestRoom}
 use Rattle.meaning.proofs.Spelled.{accepted-spells}
 use Rattle.meaning.proofs.PlainTexts.{plain-reads}
-use Rattle.shelf_list.specs.Shelf.{Entry, entry, isNumber, bothUses, size, used, stands, goodEntry}
-use Rattle.shelf_list.specs.Calls.{put, remove, stored, refused, Outcome, without, under, roomFor, putOn, fetchUnder, fetchFrom, onList}
+use Rattle.shelf_list.specs.Shelf.{Entry, entry, isNumber, size, used, stands, goodEntry}
+use Rattle.shelf_list.specs.Calls.{put, remove, stored, refused, Outcome, without, under, roomFor, putOn, fetchUnder, fetchFrom, onList, forFetch}
 use Rattle.demands.proofs.PlanPrescribed.{valid-for-both}
 use Rattle.shelf_list.proofs.Records.{good-each}
 use Rattle.shelf_list.proofs.Ends.{Put, no-number, there, unread, no-room, laid, put-ends, Remove, not-number, not-there, taken-out, remove-ends}
@@ -33,7 +33,7 @@ pub record Stored (n : ℕ) (es : List Entry) (e : Entry) (after : List Entry) :
   pub is : after ≡ es ++ (e ∷ [])
 
 pub put-stores : (n : ℕ) (es : List Entry) (number purpose : ℕ) (text : List ℕ) (p : Posology) (l : ℕ)
-    → read purpose greatestRoom text ≡ R.taken p
+    → read (inGreatestRoom purpose) text ≡ R.taken p
     → putOn n es number purpose text .answer ≡ stored l → Stored n es (entry number p) (putOn n es number purpose text .state)
 put-stores n es number purpose text p l e h = go (put-ends n es number purpose text) h
   where
@@ -51,16 +51,16 @@ under-last n (e ∷ es) p h =
     ap (λ (b : Bool). cond b (some (e .posology)) (under n (es ++ (entry n p ∷ [])))) (k .0) ∙ under-last n es p (k .1)
 
 pub put-then-fetch : (n : ℕ) (es : List Entry) (number purpose room : ℕ) (text : List ℕ) (p : Posology) (l : ℕ)
-    → onList n (put number purpose text) es .answer ≡ stored l → read purpose greatestRoom text ≡ R.taken p → Fits (roomOf room) p
+    → onList n (put number purpose text) es .answer ≡ stored l → read (inGreatestRoom purpose) text ≡ R.taken p → Fits (roomOf room) p
     → fetchFrom (onList n (put number purpose text) es .state) number room ≡ R.taken p
 unfolding onList
 put-then-fetch n es number purpose room text p l s e g =
     let k = put-stores n es number purpose text p l e s in
-    let a = accepted-spells purpose greatestRoom text p e in
+    let a = accepted-spells (inGreatestRoom purpose) text p e in
     ap (λ (fs : List Entry). fetchFrom fs number room) (k .is)
     ∙ choose-true (isNumber number) (λ _. fetchUnder (under number (es ++ (entry number p ∷ []))) room) (λ _. R.refused 21 0) (k .numbered)
     ∙ ap (λ (o : Option Posology). fetchUnder o room) (under-last number es p (k .free))
-    ∙ (plain-reads bothUses (roomOf room) p (refl, valid-for-both purpose p (a .1)) (a .3) g)
+    ∙ (plain-reads (forFetch room) p (refl, valid-for-both purpose p (a .1)) (a .3) g)
 
 -- Where a number stands, its removal frees at least its record's bytes.
 pub frees : (n : ℕ) (es : List Entry) (p : Posology) → under n es ≡ some p → used (without n es) + size (entry n p) ≤ used es
@@ -89,7 +89,7 @@ stands-number n (e ∷ es) g h = go (eqb n (e .number)) refl h (stands-number n 
 
 -- A put that has room is never 24.
 pub never-24 : (n : ℕ) (es : List Entry) (number purpose : ℕ) (text : List ℕ) (q : Posology) (place : ℕ)
-    → read purpose greatestRoom text ≡ R.taken q
+    → read (inGreatestRoom purpose) text ≡ R.taken q
     → roomFor n es (entry number q) ≡ true → putOn n es number purpose text .answer ≡ refused 24 place → ⊥
 never-24 n es number purpose text q place e r h = go (put-ends n es number purpose text) h
   where
@@ -108,7 +108,7 @@ freed-room-for n es number other p q f u l =
     le-leb (size (entry other q)) (n - used (without number es)) (omega arith)
 
 pub freed-serves : (n : ℕ) (es : List Entry) (number other purpose : ℕ) (text : List ℕ) (p q : Posology) → Fitting n es
-    → under number es ≡ some p → read purpose greatestRoom text ≡ R.taken q → length (plain q) ≤ length (plain p)
+    → under number es ≡ some p → read (inGreatestRoom purpose) text ≡ R.taken q → length (plain q) ≤ length (plain p)
     → (place : ℕ) → onList n (put other purpose text) (onList n (remove number) es .state) .answer ≡ refused 24 place → ⊥
 unfolding onList
 freed-serves n es number other purpose text p q f u e l place h = go (remove-ends es number) h

@@ -13,7 +13,7 @@ use Rattle.document.specs.Valid.{Fits, roomOf}
 use Rattle.document.specs.Plain.{plain}
 use Rattle.document.specs.Answer as R
 use Rattle.document.specs.Answer.{read}
-use Rattle.document.specs.Write.{greatestRoom}
+use Rattle.document.specs.Write.{inGreatestRoom}
 use Rattle.shelf_list.specs.Shelf.{areaAtMost, Entry, isNumber, used, laidOut, stands, Holds, bytesUsed, entriesIn}
 use Rattle.shelf_list.specs.Calls.{Call, put, fetch, remove, Answer, stored, refused, under, fetchFrom, fetchAnswer, fetchedFrom, onList, onArea, Serves, runOnList, runOnArea}
 use Rattle.shelf_list.specs.Grounds.{NoNumber, AlreadyThere, NotThere, NotRead, NoRoom, too-long, Taken}
@@ -120,12 +120,12 @@ stored-iff c a l = (
 )
 
 pub stored-length : (number purpose : ℕ) (text a : List ℕ) (p : Posology) (l : ℕ) → onArea (put number purpose text) a .answer ≡ stored l
-    → read purpose greatestRoom text ≡ R.taken p → l ≡ length (plain p)
+    → read (inGreatestRoom purpose) text ≡ R.taken p → l ≡ length (plain p)
 stored-length number purpose text a p l s e = long-as-read e (stored-iff (put number purpose text) a l .0 s .2)
 
 -- The room rule of a list, for a put that comes so far.
 pub no-room-iff : (n : ℕ) (es : List Entry) (number purpose : ℕ) (text : List ℕ) (p : Posology)
-    → isNumber number ≡ true → stands number es ≡ false → read purpose greatestRoom text ≡ R.taken p
+    → isNumber number ≡ true → stands number es ≡ false → read (inGreatestRoom purpose) text ≡ R.taken p
     → (onList n (put number purpose text) es .answer ≡ refused 24 0) ↔ (n - used es < 6 + length (plain p))
 no-room-iff n es number purpose text p i s e = (
   λ h. short-as-read e (by-24 (refused-by (call-ground n (put number purpose text) es) h) refl .0),
@@ -138,18 +138,18 @@ fetch-is-its-reading number room a = fetch-reads number room a
 
 -- What was put is fetched: the table that reading the text gave, for either use, in any buffer that holds its strings.
 pub put-fetches : (number purpose room : ℕ) (text a : List ℕ) (p : Posology) (l : ℕ) → onArea (put number purpose text) a .answer ≡ stored l
-    → read purpose greatestRoom text ≡ R.taken p → Fits (roomOf room) p
+    → read (inGreatestRoom purpose) text ≡ R.taken p → Fits (roomOf room) p
     → fetchedFrom (onArea (put number purpose text) a .state) number room ≡ R.taken p
 put-fetches number purpose room text a p l s e g = put-then-fetched number purpose room text a p l s e g
 
 -- The same of a list, good or not.
 pub put-fetches-of-list : (n : ℕ) (es : List Entry) (number purpose room : ℕ) (text : List ℕ) (p : Posology) (l : ℕ)
-    → onList n (put number purpose text) es .answer ≡ stored l → read purpose greatestRoom text ≡ R.taken p → Fits (roomOf room) p
+    → onList n (put number purpose text) es .answer ≡ stored l → read (inGreatestRoom purpose) text ≡ R.taken p → Fits (roomOf room) p
     → fetchFrom (onList n (put number purpose text) es .state) number room ≡ R.taken p
 put-fetches-of-list n es number purpose room text p l s e g = put-then-fetch n es number purpose room text p l s e g
 
 -- "freed room serves the next put": no more bytes than the removed record took are never 24.
 pub freed-room : (a : List ℕ) (es : List Entry) (number other purpose : ℕ) (text : List ℕ) (p q : Posology) → Holds a es
-    → under number es ≡ some p → read purpose greatestRoom text ≡ R.taken q → length (plain q) ≤ length (plain p)
+    → under number es ≡ some p → read (inGreatestRoom purpose) text ≡ R.taken q → length (plain q) ≤ length (plain p)
     → (place : ℕ) → onArea (put other purpose text) (onArea (remove number) a .state) .answer ≡ refused 24 place → ⊥
 freed-room a es number other purpose text p q h u e l place k = freed-on-area a es number other purpose text p q h u e l place k

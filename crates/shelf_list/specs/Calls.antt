@@ -12,7 +12,8 @@ use Rattle.document.specs.Valid.{roomOf}
 use Rattle.document.specs.Plain.{plain}
 use Rattle.document.specs.Answer as R
 use Rattle.document.specs.Answer.{Read, read}
-use Rattle.document.specs.Write.{greatestRoom}
+use Rattle.document.specs.Write.{inGreatestRoom}
+use Rattle.document.specs.declared.terms.Terms.{Terms}
 use Rattle.shelf_list.specs.Shelf.{Entry, entry, isNumber, bothUses, size, used, laidOut, stands, entriesIn}
 
 pub data Call : Type 0 where
@@ -69,13 +70,16 @@ abbrev pub putOn : ℕ → List Entry → ℕ → ℕ → List ℕ → Outcome (
 putOn n es number purpose text =
     choose (isNumber number) (λ _.
     choose (stands number es) (λ _. answers (refused 22 0) es) λ _.
-    putRead n es number (read purpose greatestRoom text)) λ _.
+    putRead n es number (read (inGreatestRoom purpose) text)) λ _.
     answers (refused 21 0) es
 
 -- "fetch a table by number, read for use 3 .., places counted in its plain text"
+abbrev pub forFetch : ℕ → Terms
+forFetch room = record { purpose = bothUses; room = roomOf room }
+
 abbrev pub fetchUnder : Option Posology → ℕ → Read
 fetchUnder none room = R.refused 23 0
-fetchUnder (some p) room = read bothUses (roomOf room) (plain p)
+fetchUnder (some p) room = read (forFetch room) (plain p)
 
 abbrev pub fetchFrom : List Entry → ℕ → ℕ → Read
 fetchFrom es number room =

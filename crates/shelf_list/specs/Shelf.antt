@@ -12,7 +12,7 @@ use Rattle.document.specs.Posology.{Posology}
 use Rattle.document.specs.Valid.{valid, strings, every}
 use Rattle.document.specs.Plain.{plain}
 use Rattle.document.specs.Answer.{Read, taken, refused, read}
-use Rattle.document.specs.Write.{greatestRoom}
+use Rattle.document.specs.Write.{greatestRoom, inGreatestRoom}
 
 -- "one lent area of at most 65,535 bytes"
 abbrev pub areaAtMost : ℕ
@@ -87,7 +87,7 @@ ifPlain text (taken p) = cond (same (plain p) text) (some p) none
 ifPlain text (refused n place) = none
 
 unfoldable pub plainOf : List ℕ → Option Posology
-plainOf text = ifPlain text (read bothUses greatestRoom text)
+plainOf text = ifPlain text (read (inGreatestRoom bothUses) text)
 
 abbrev pub isGiven : {A : Type 0} → Option A → Bool
 isGiven none = false

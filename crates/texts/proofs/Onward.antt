@@ -11,35 +11,36 @@ use Rattle.json.specs.Tree.{Place, placeIn}
 use Rattle.json.specs.Walk.{Walked, end, refused2, refused3, firstObject, oneObject}
 use Rattle.document.specs.Answer.{textAtMost, Read, refused, afterWalk, readWalked, read, ReadNext, blankTo, refusedAt, upTo, nextWalked, nextBegun, readNext}
 use Rattle.document.specs.Valid.{isUse}
+use Rattle.document.specs.declared.terms.Terms.{Terms}
 use Rattle.texts.specs.Texts.{oneWalked, oneText, firstWalked, firstBegun, firstText}
 use Rattle.texts.specs.declared.OneText.{OneText}
 use Rattle.texts.specs.declared.OneText.the-variants as O
 use Rattle.texts.specs.declared.FirstText.{FirstText}
 use Rattle.texts.specs.declared.FirstText.the-variants as F
 
-module _ (purpose room : ℕ) (text : List ℕ) where
+module _ (terms : Terms) (text : List ℕ) where
   abbrev pub readOn : OneText → Read
-  readOn O.Walked = readWalked purpose room text
+  readOn O.Walked = readWalked terms text
   readOn (O.Refused n p) = refused n p
 
-  walked-on : (w : Walked) → afterWalk purpose room text w ≡ readOn (oneWalked text w)
+  walked-on : (w : Walked) → afterWalk terms text w ≡ readOn (oneWalked text w)
   walked-on (end r) = refl
   walked-on (refused2 p) = refl
   walked-on (refused3 p) = refl
 
-  pub read-on : read purpose room text ≡ readOn (oneText purpose text)
+  pub read-on : read terms text ≡ readOn (oneText (terms .purpose) text)
   unfolding read oneText
-  read-on = by (isUse purpose) (leb (length text) textAtMost)
+  read-on = by (isUse (terms .purpose)) (leb (length text) textAtMost)
     where
       by : (a b : Bool)
-          → choose a (λ _. choose b (λ _. afterWalk purpose room text (oneObject text)) λ _. refused 1 textAtMost) (λ _. refused 17 0)
+          → choose a (λ _. choose b (λ _. afterWalk terms text (oneObject text)) λ _. refused 1 textAtMost) (λ _. refused 17 0)
           ≡ readOn (choose a (λ _. choose b (λ _. oneWalked text (oneObject text)) λ _. O.Refused 1 textAtMost) λ _. O.Refused 17 0)
       by true true = walked-on (oneObject text)
       by true false = refl
       by false b = refl
 
   abbrev pub nextOn : FirstText → ReadNext
-  nextOn (F.Ends e) = upTo e (readWalked purpose room text)
+  nextOn (F.Ends e) = upTo e (readWalked terms text)
   nextOn (F.Blank n) = blankTo n
   nextOn (F.Refused n p) = refusedAt n p
 
@@ -47,24 +48,24 @@ module _ (purpose room : ℕ) (text : List ℕ) where
   cut-on true n p = refl
   cut-on false n p = refl
 
-  ended-on : (b : Bool) (e : ℕ) → choose b (λ _. upTo e (readWalked purpose room text)) (λ _. refusedAt 1 textAtMost) ≡ nextOn (choose b (λ _. F.Ends e) λ _. F.Refused 1 textAtMost)
+  ended-on : (b : Bool) (e : ℕ) → choose b (λ _. upTo e (readWalked terms text)) (λ _. refusedAt 1 textAtMost) ≡ nextOn (choose b (λ _. F.Ends e) λ _. F.Refused 1 textAtMost)
   ended-on true e = refl
   ended-on false e = refl
 
-  first-walked-on : (w : Walked) → nextWalked purpose room text w ≡ nextOn (firstWalked text w)
+  first-walked-on : (w : Walked) → nextWalked terms text w ≡ nextOn (firstWalked text w)
   first-walked-on (end r) = ended-on (leb (placeIn text r) textAtMost) (placeIn text r)
   first-walked-on (refused2 p) = cut-on (leb (length text) textAtMost || ltb (placeIn text p) textAtMost) 2 (placeIn text p)
   first-walked-on (refused3 p) = cut-on (leb (length text) textAtMost || ltb (placeIn text p) textAtMost) 3 (placeIn text p)
 
-  begun-on : (s : List ℕ) → nextBegun purpose room text s ≡ nextOn (firstBegun text s)
+  begun-on : (s : List ℕ) → nextBegun terms text s ≡ nextOn (firstBegun text s)
   begun-on [] = refl
   begun-on (b ∷ s) = first-walked-on (firstObject text)
 
-  pub next-on : readNext purpose room text ≡ nextOn (firstText purpose text)
+  pub next-on : readNext terms text ≡ nextOn (firstText (terms .purpose) text)
   unfolding readNext firstText
-  next-on = by (isUse purpose)
+  next-on = by (isUse (terms .purpose))
     where
-      by : (a : Bool) → choose a (λ _. nextBegun purpose room text (blanked text)) (λ _. refusedAt 17 0) ≡ nextOn (choose a (λ _. firstBegun text (blanked text)) λ _. F.Refused 17 0)
+      by : (a : Bool) → choose a (λ _. nextBegun terms text (blanked text)) (λ _. refusedAt 17 0) ≡ nextOn (choose a (λ _. firstBegun text (blanked text)) λ _. F.Refused 17 0)
       by true = begun-on (blanked text)
       by false = refl
 

@@ -9,6 +9,8 @@ use Rattle.document.specs.Posology.{Posology}
 use Rattle.document.specs.Table.{dateCell, lengthOf}
 use Rattle.document.specs.Valid.{detailStrings, detailRecords, strings}
 use Rattle.visits.specs.Rows.{DetailRows}
+use Rattle.document.specs.declared.terms.Used.{Used}
+use Rattle.document.specs.Words.{width}
 use Rattle.records.specs.declared.read.Piece.{Piece}
 use Rattle.records.specs.declared.read.HeadRead.{HeadRead}
 
@@ -17,19 +19,20 @@ abbrev pub PieceOf : List ℕ → ℕ → Option (List ℕ) → Piece → Type 0
 PieceOf text start none p = (p .quote ≡ 0) × (p .start ≡ 0) × (p .len ≡ 0)
 PieceOf text start (some cs) p = (p .start ≡ start) × (p .len ≡ length cs) × (0 < length cs) × (decoded (drop (p .quote) text) ≡ cs)
 
-pub record Holds (text : List ℕ) (p : Posology) (h : HeadRead) (words : List ℕ) : Type 0 where
+-- With u taken before it.
+pub record Holds (u : Used) (text : List ℕ) (p : Posology) (h : HeadRead) (words : List ℕ) : Type 0 where
   pub chunk : List ℕ
-  pub rows : DetailRows (p .po) text 0 chunk
-  pub written : take (length chunk) words ≡ chunk
-  pub count : h .used .records ≡ detailRecords (p .po)
-  pub size : length chunk ≡ 6 * h .used .records
+  pub rows : DetailRows (p .po) text (u .text) chunk
+  pub written : take (length chunk) (drop (width * u .records) words) ≡ chunk
+  pub count : h .used .records ≡ u .records + detailRecords (p .po)
+  pub size : u .records * width + length chunk ≡ h .used .records * width
   pub few : h .used .records ≤ 64
   pub from : dateCell (p .dtFrom) ≡ h .from
   pub to : dateCell (p .dtTo) ≡ h .to
   pub reserve : p .inRes ≡ h .reserve
   pub meal : Option·getD (p .relMeal) 0 ≡ h .meal
-  pub unit : PieceOf text (length (detailStrings (p .po) [])) (p .unit) (h .unit)
-  pub instructions : PieceOf text (length (detailStrings (p .po) []) + lengthOf (p .unit)) (p .applInstr) (h .instructions)
-  pub roa : PieceOf text (length (detailStrings (p .po) []) + lengthOf (p .unit) + lengthOf (p .applInstr)) (p .roa) (h .roa)
-  pub moa : PieceOf text (length (detailStrings (p .po) []) + lengthOf (p .unit) + lengthOf (p .applInstr) + lengthOf (p .roa)) (p .moa) (h .moa)
-  pub taken : h .used .text ≡ length (strings p)
+  pub unit : PieceOf text (u .text + length (detailStrings (p .po) [])) (p .unit) (h .unit)
+  pub instructions : PieceOf text (u .text + length (detailStrings (p .po) []) + lengthOf (p .unit)) (p .applInstr) (h .instructions)
+  pub roa : PieceOf text (u .text + length (detailStrings (p .po) []) + lengthOf (p .unit) + lengthOf (p .applInstr)) (p .roa) (h .roa)
+  pub moa : PieceOf text (u .text + length (detailStrings (p .po) []) + lengthOf (p .unit) + lengthOf (p .applInstr) + lengthOf (p .roa)) (p .moa) (h .moa)
+  pub taken : h .used .text ≡ u .text + length (strings p)

@@ -1,24 +1,14 @@
--- What visiting a detail leaves, and an object of a sequence: their rows, and where their strings end.
+-- The rows of a detail and of an object of a sequence, and where their strings end.
 use Prim.Native.Nat.{ℕ, _+_}
 use mathlib.Core.Path.{_≡_}
 use mathlib.Core.List.{List, [], _∷_, _++_}
 use lib.ListN.{length, drop}
-use Rattle.json.specs.Tree.{Place, object, list, Members, Elements}
 use Rattle.moving.specs.Read.{decoded}
-use Rattle.document.specs.Bytes.{bytes}
 use Rattle.document.specs.Posology as P
-use Rattle.document.specs.Lookup.{Found}
-use Rattle.document.specs.Schema.{Family, OfFamily, anObject}
-use Rattle.document.specs.Visit.{Value, entriesOf, valuesOf, needed, members, body, each}
 use Rattle.document.specs.Table.{detailRows}
 use Rattle.document.specs.Valid.{detailRecords, objectsRecords, detailStrings, objectStrings, objectsStrings}
 use Rattle.document.specs.Words.{words, row, rows, allWords}
-use Rattle.document.specs.At.{At, Slot}
-use Rattle.names.specs.Names.{Once}
-use Rattle.dosages.specs.Visiting.{leftOf, RowsIn, VisitedIn}
-use Rattle.records.specs.declared.rows.Used.{Used}
-use Rattle.records.specs.declared.rows.Visit.{Visit}
-use Rattle.opening.specs.declared.opened.Opened.{Opened}
+use Rattle.dosages.specs.Visiting.{RowsIn}
 
 -- The rows of each value. A FreeText's has its quote's place in the fifth word, until the strings are laid down.
 unfoldable mutual
@@ -46,24 +36,3 @@ ObjectIn text end o at chunk = ObjectRows o text at chunk × (end ≡ at + lengt
 
 abbrev pub ObjectsIn : List ℕ → RowsIn (List P.SequenceObject)
 ObjectsIn text end os at chunk = ObjectsRows (P.ordered os) text at chunk × (end ≡ at + length (objectsStrings (P.ordered os) []))
-
--- An object of a family, its body, a needed object and the elements of a list, as in Visiting.antt, where the room is known.
-abbrev pub VisitsObjectIn : ℕ → (f : Family) → RowsIn (OfFamily f) → List ℕ → ℕ → Used → List ℕ → Visit → List ℕ → Type 0
-VisitsObjectIn room f rowsIn text at u before r after =
-    (p : Place) (ms : Members) → At text at (object p ms)
-    → VisitedIn text room u before rowsIn (members f p (entriesOf ms) (leftOf room u)) r after
-
-abbrev pub VisitsBodyIn : ℕ → (f : Family) → ℕ → RowsIn (OfFamily f) → List ℕ → ℕ → Opened → Used → List ℕ → Visit → List ℕ → Type 0
-VisitsBodyIn room f t rowsIn text at o u before r after =
-    (p : Place) (ms : Members) → At text at (object p ms) → Once text (entriesOf ms) (o .members) (o .slots)
-    → VisitedIn text room u before rowsIn (body f t (bytes "t" ∷ []) p (entriesOf ms) (leftOf room u)) r after
-
-abbrev pub VisitsNeededIn : ℕ → (f : Family) → RowsIn (OfFamily f) → List ℕ → ℕ → ℕ → Used → List ℕ → Visit → List ℕ → Type 0
-VisitsNeededIn room fam rowsIn text brace v u before r after =
-    (f : Found Value) → Slot text v f
-    → VisitedIn text room u before rowsIn (needed (anObject fam) (drop brace text) f (leftOf room u)) r after
-
-abbrev pub VisitsEachIn : ℕ → (f : Family) → RowsIn (List (OfFamily f)) → List ℕ → ℕ → Used → List ℕ → Visit → List ℕ → Type 0
-VisitsEachIn room fam rowsIn text at u before r after =
-    (p : Place) (es : Elements) → At text at (list p es)
-    → VisitedIn text room u before rowsIn (each (anObject fam) (valuesOf es) (leftOf room u)) r after

@@ -1,11 +1,17 @@
 // Details and sequences (document 01, "Objects": Daily to Sequence, PosologySequence, Pause).
 // Reading a detail calls reading a sequence and back; the sequences still allowed are the number that falls.
+use document::table::RECORDS;
 use document::table::WORDS;
+use document::terms;
+use document::terms::Terms;
+use document::terms::Used;
 use dosages::timed;
 use fields::field;
-use fields::field::Field;
+use fields::field::Counted;
 use fields::field::Found;
 use fields::field::Worded;
+use fields::four;
+use fields::four::Fours;
 use names::CY_DU;
 use names::CY_DU_U;
 use names::DS;
@@ -19,22 +25,23 @@ use names::TDPC;
 use names::TEXT;
 use names::Unknown;
 use opening::opened;
+use opening::opened::Object;
 use opening::opened::Opened;
 use records::allowed;
+use records::allowed::UNDER_SINGLE;
 use records::rows;
-use records::rows::Used;
 use records::rows::Visit;
-use records::rows::up;
+use records::rows::up_counted;
 use records::rows::up_found;
+use records::rows::up_four;
 use records::rows::up_worded;
 ghost use Prim.Native.Nat.{ℕ, suc, _≤_, _<_};
 ghost use lib.ListN.{length};
 ghost use Rattle.document.specs.Schema.{aDetail, aSequenceObject};
-ghost use Rattle.dosages.specs.Visiting.{Ready};
-ghost use Rattle.visits.specs.Rows.{DetailAt, ObjectIn, ObjectsIn, VisitsBodyIn, VisitsObjectIn, VisitsEachIn, VisitsNeededIn};
-ghost use Rattle.visits.specs.Room.{KeptIn};
-ghost use Rattle.visits.specs.Fours.{ReadsFour};
-ghost use Rattle.visits.specs.Detail.{AnswersDetail};
+ghost use Rattle.dosages.specs.Visiting.{VisitsTyped, VisitsObject, VisitsEach, VisitsNeeded};
+ghost use Rattle.dosages.specs.Kept.{Ready, Kept};
+ghost use Rattle.visits.specs.Rows.{DetailAt, ObjectIn, ObjectsIn};
+ghost use Rattle.visits.specs.Detail.{VisitsSequence, AnswersDetail};
 
 // "at most 3 sequences inside one another"
 const SEQUENCES: usize = 3;
@@ -53,218 +60,158 @@ const POSOLOGY_SEQUENCE: [usize; 4] = [T, DU, DU_U, PO];
 
 const PAUSE: [usize; 3] = [T, DU, DU_U];
 
-// The four decimals of the list at `at`, which has four elements.
-fn four(text: &[u8], at: usize, used: Used, words: &mut [u64]) -> Visit
-    requires { ⌜ Ready (now words) used × (used .records < 64) ⌝ }
-    ensures { λ r. ⌜ ReadsFour (now (text .entry)) at used (now (words .entry)) r (now (words .exit)) ⌝ }
-    ensures { λ r. ⌜ ((room : ℕ) → used .text ≤ room → KeptIn room 1 (now (words .entry)) used r (now (words .exit))) ⌝ }
+fn daily(text: &[u8], at: usize, o: Object, terms: Terms, used: Used, words: &mut [u64]) -> Visit
+    requires { ⌜ Ready terms (now words) used × (used .records < 64) × (at ≤ length (now text)) ⌝ }
+    ensures { λ r. ⌜ ((n : ℕ) → VisitsTyped terms (aDetail n) 1 (DetailAt (now (text .entry))) (now (text .entry)) at o used (now (words .entry)) r (now (words .exit))) ⌝ }
+    ensures { λ r. ⌜ Kept terms 1 (now (words .entry)) used r (now (words .exit)) ⌝ }
 {
-    let e = moving::first_in(text, at);
-    let f = field::decimal_value(text, e, 0);
-    let Field::Is(morning) = f else {
-        return up(f);
-    };
-    let e = moving::next_after(text, e);
-    let f = field::decimal_value(text, e, 0);
-    let Field::Is(noon) = f else {
-        return up(f);
-    };
-    let e = moving::next_after(text, e);
-    let f = field::decimal_value(text, e, 0);
-    let Field::Is(evening) = f else {
-        return up(f);
-    };
-    let e = moving::next_after(text, e);
-    let f = field::decimal_value(text, e, 0);
-    let Field::Is(night) = f else {
-        return up(f);
-    };
-    rows::leaf(words, used, 1, morning, noon, evening, night)
-}
-
-fn daily(text: &[u8], at: usize, o: Opened, used: Used, words: &mut [u64]) -> Visit
-    requires { ⌜ Ready (now words) used × (used .records < 64) × (at ≤ length (now text)) ⌝ }
-    ensures { λ r. ⌜ ((n room : ℕ) → used .text ≤ room → VisitsBodyIn room (aDetail n) 1 (DetailAt (now (text .entry))) (now (text .entry)) at o used (now (words .entry)) r (now (words .exit))) ⌝ }
-    ensures { λ r. ⌜ ((room : ℕ) → used .text ≤ room → KeptIn room 1 (now (words .entry)) used r (now (words .exit))) ⌝ }
-{
+    let i = used.records;
     let slots = o.slots;
     if let Unknown::At(q) = names::unknown_name(text, at, o.members, &slots, &DAILY) {
         return Visit::Refused(5, q);
     }
-    let f = field::list_field(text, at, slots[DS]);
-    let Found::At(l) = f else {
-        return up_found(f);
+    let f = four::four_field(text, at, slots[DS]);
+    let Fours::Is(morning, noon, evening, night) = f else {
+        return up_four(f);
     };
-    if moving::count(text, l) != 4 {
-        return Visit::Refused(11, l);
-    }
-    four(text, l, used, words)
+    rows::store(
+        words,
+        i,
+        terms::one_more(used),
+        1,
+        morning,
+        noon,
+        evening,
+        night,
+    )
 }
 
 // The record keeps the quote's place until the strings are laid down.
-fn free_text(text: &[u8], at: usize, o: Opened, room: usize, used: Used, words: &mut [u64]) -> Visit
-    requires { ⌜ Ready (now words) used × (used .records < 64) × (at ≤ length (now text)) × (used .text ≤ room) ⌝ }
-    ensures { λ r. ⌜ ((n : ℕ) → VisitsBodyIn room (aDetail n) 2 (DetailAt (now (text .entry))) (now (text .entry)) at o used (now (words .entry)) r (now (words .exit))) ⌝ }
-    ensures { λ r. ⌜ KeptIn room 1 (now (words .entry)) used r (now (words .exit)) ⌝ }
+fn free_text(
+    text: &[u8],
+    at: usize,
+    o: Object,
+    terms: Terms,
+    used: Used,
+    words: &mut [u64],
+) -> Visit
+    requires { ⌜ Ready terms (now words) used × (used .records < 64) × (at ≤ length (now text)) ⌝ }
+    ensures { λ r. ⌜ ((n : ℕ) → VisitsTyped terms (aDetail n) 2 (DetailAt (now (text .entry))) (now (text .entry)) at o used (now (words .entry)) r (now (words .exit))) ⌝ }
+    ensures { λ r. ⌜ Kept terms 1 (now (words .entry)) used r (now (words .exit)) ⌝ }
 {
+    let i = used.records;
     let slots = o.slots;
     if let Unknown::At(q) = names::unknown_name(text, at, o.members, &slots, &FREE_TEXT) {
         return Visit::Refused(5, q);
     }
     let start = used.text;
-    let f = field::text_field(text, at, slots[TEXT], room - start);
-    let Worded::Is(quote, n) = f else {
+    let f = field::text_field(text, at, slots[TEXT], terms, terms::one_more(used));
+    let Worded::Is(quote, n, used) = f else {
         return up_worded(f);
     };
-    rows::put(
-        words,
-        used.records,
-        2,
-        0,
-        start as u64,
-        n as u64,
-        quote as u64,
-        0,
-    );
-    Visit::Done(Used {
-        records: used.records + 1,
-        text: start + n,
-    })
+    rows::store(words, i, used, 2, start as u64, n as u64, quote as u64, 0)
 }
 
-fn single(text: &[u8], at: usize, o: Opened, used: Used, words: &mut [u64]) -> Visit
-    requires { ⌜ Ready (now words) used × (used .records < 64) × (at ≤ length (now text)) ⌝ }
-    ensures { λ r. ⌜ ((n room : ℕ) → used .text ≤ room → VisitsBodyIn room (aDetail n) 3 (DetailAt (now (text .entry))) (now (text .entry)) at o used (now (words .entry)) r (now (words .exit))) ⌝ }
-    ensures { λ r. ⌜ ((room : ℕ) → used .text ≤ room → KeptIn room 1 (now (words .entry)) used r (now (words .exit))) ⌝ }
+fn single(text: &[u8], at: usize, o: Object, terms: Terms, used: Used, words: &mut [u64]) -> Visit
+    requires { ⌜ Ready terms (now words) used × (used .records < 64) × (at ≤ length (now text)) ⌝ }
+    ensures { λ r. ⌜ ((n : ℕ) → VisitsTyped terms (aDetail n) 3 (DetailAt (now (text .entry))) (now (text .entry)) at o used (now (words .entry)) r (now (words .exit))) ⌝ }
+    ensures { λ r. ⌜ Kept terms 1 (now (words .entry)) used r (now (words .exit)) ⌝ }
 {
+    let i = used.records;
     let slots = o.slots;
     if let Unknown::At(q) = names::unknown_name(text, at, o.members, &slots, &SINGLE) {
         return Visit::Refused(5, q);
     }
-    let r = timed::read_timed(
-        text,
-        at,
-        slots[TDO],
-        allowed::UNDER_SINGLE,
-        rows::one_more(used),
-        words,
-    );
+    let used = terms::one_more(used);
+    let r = timed::read_timed(text, at, slots[TDO], UNDER_SINGLE, terms, used, words);
     let Visit::Done(done) = r else {
         return r;
     };
-    // A timed dosage has no string.
-    rows::above(
-        words,
-        used,
-        Used {
-            records: done.records,
-            text: used.text,
-        },
-        3,
-        0,
-        0,
-        0,
-        0,
-    )
+    rows::store(words, i, done, 3, 0, 0, 0, 0)
 }
 
-fn cyclic(text: &[u8], at: usize, o: Opened, used: Used, words: &mut [u64]) -> Visit
-    requires { ⌜ Ready (now words) used × (used .records < 64) × (at ≤ length (now text)) ⌝ }
-    ensures { λ r. ⌜ ((n room : ℕ) → used .text ≤ room → VisitsBodyIn room (aDetail n) 4 (DetailAt (now (text .entry))) (now (text .entry)) at o used (now (words .entry)) r (now (words .exit))) ⌝ }
-    ensures { λ r. ⌜ ((room : ℕ) → used .text ≤ room → KeptIn room 1 (now (words .entry)) used r (now (words .exit))) ⌝ }
+fn cyclic(text: &[u8], at: usize, o: Object, terms: Terms, used: Used, words: &mut [u64]) -> Visit
+    requires { ⌜ Ready terms (now words) used × (used .records < 64) × (at ≤ length (now text)) ⌝ }
+    ensures { λ r. ⌜ ((n : ℕ) → VisitsTyped terms (aDetail n) 4 (DetailAt (now (text .entry))) (now (text .entry)) at o used (now (words .entry)) r (now (words .exit))) ⌝ }
+    ensures { λ r. ⌜ Kept terms 1 (now (words .entry)) used r (now (words .exit)) ⌝ }
 {
+    let i = used.records;
     let slots = o.slots;
     if let Unknown::At(q) = names::unknown_name(text, at, o.members, &slots, &CYCLIC) {
         return Visit::Refused(5, q);
     }
-    let f = field::integer_field(text, at, slots[CY_DU_U], 1, 7);
-    let Field::Is(unit) = f else {
-        return up(f);
+    let f = field::integer_field(text, at, slots[CY_DU_U], 1, 7, terms::one_more(used));
+    let Counted::Is(unit, used) = f else {
+        return up_counted(f);
     };
-    let f = field::integer_field(text, at, slots[CY_DU], 1, 99999);
-    let Field::Is(du) = f else {
-        return up(f);
+    let f = field::integer_field(text, at, slots[CY_DU], 1, 99999, used);
+    let Counted::Is(du, used) = f else {
+        return up_counted(f);
     };
-    let r = timed::read_timed(
-        text,
-        at,
-        slots[TDO],
-        allowed::under_cyclic(unit),
-        rows::one_more(used),
-        words,
-    );
+    let under = allowed::under_cyclic(unit);
+    let r = timed::read_timed(text, at, slots[TDO], under, terms, used, words);
     let Visit::Done(done) = r else {
         return r;
     };
-    let f = field::optional_integer(text, slots[TDPC], 1, 99999, 1);
-    let Field::Is(per) = f else {
-        return up(f);
+    let f = field::optional_integer(text, slots[TDPC], 1, 99999, 1, done);
+    let Counted::Is(per, done) = f else {
+        return up_counted(f);
     };
-    rows::above(
-        words,
-        used,
-        Used {
-            records: done.records,
-            text: used.text,
-        },
-        4,
-        unit,
-        du,
-        per,
-        0,
-    )
+    rows::store(words, i, done, 4, unit, du, per, 0)
 }
 
-fn pause(text: &[u8], at: usize, o: Opened, used: Used, words: &mut [u64]) -> Visit
-    requires { ⌜ Ready (now words) used × (used .records < 64) × (at ≤ length (now text)) ⌝ }
-    ensures { λ r. ⌜ ((n room : ℕ) → used .text ≤ room → VisitsBodyIn room (aSequenceObject n) 2 (ObjectIn (now (text .entry))) (now (text .entry)) at o used (now (words .entry)) r (now (words .exit))) ⌝ }
-    ensures { λ r. ⌜ ((room : ℕ) → used .text ≤ room → KeptIn room 1 (now (words .entry)) used r (now (words .exit))) ⌝ }
+fn pause(text: &[u8], at: usize, o: Object, terms: Terms, used: Used, words: &mut [u64]) -> Visit
+    requires { ⌜ Ready terms (now words) used × (used .records < 64) × (at ≤ length (now text)) ⌝ }
+    ensures { λ r. ⌜ ((n : ℕ) → VisitsTyped terms (aSequenceObject n) 2 (ObjectIn (now (text .entry))) (now (text .entry)) at o used (now (words .entry)) r (now (words .exit))) ⌝ }
+    ensures { λ r. ⌜ Kept terms 1 (now (words .entry)) used r (now (words .exit)) ⌝ }
 {
+    let i = used.records;
     let slots = o.slots;
     if let Unknown::At(q) = names::unknown_name(text, at, o.members, &slots, &PAUSE) {
         return Visit::Refused(5, q);
     }
-    let f = field::integer_field(text, at, slots[DU], 1, 99999);
-    let Field::Is(du) = f else {
-        return up(f);
+    let f = field::integer_field(text, at, slots[DU], 1, 99999, terms::one_more(used));
+    let Counted::Is(du, used) = f else {
+        return up_counted(f);
     };
-    let f = field::integer_field(text, at, slots[DU_U], 1, 7);
-    let Field::Is(unit) = f else {
-        return up(f);
+    let f = field::integer_field(text, at, slots[DU_U], 1, 7, used);
+    let Counted::Is(unit, used) = f else {
+        return up_counted(f);
     };
-    rows::leaf(words, used, 16, du, unit, 0, 0)
+    rows::store(words, i, used, 16, du, unit, 0, 0)
 }
 
 fn posology_sequence(
     text: &[u8],
     at: usize,
-    o: Opened,
+    o: Object,
     left: usize,
-    room: usize,
+    terms: Terms,
     used: Used,
     words: &mut [u64],
 ) -> Visit
-    requires { ⌜ Ready (now words) used × (used .records < 64) × (at ≤ length (now text)) × (used .text ≤ room) ⌝ }
-    ensures { λ r. ⌜ VisitsBodyIn room (aSequenceObject left) 1 (ObjectIn (now (text .entry))) (now (text .entry)) at o used (now (words .entry)) r (now (words .exit)) ⌝ }
-    ensures { λ r. ⌜ KeptIn room 1 (now (words .entry)) used r (now (words .exit)) ⌝ }
+    requires { ⌜ Ready terms (now words) used × (used .records < 64) × (at ≤ length (now text)) ⌝ }
+    ensures { λ r. ⌜ VisitsTyped terms (aSequenceObject left) 1 (ObjectIn (now (text .entry))) (now (text .entry)) at o used (now (words .entry)) r (now (words .exit)) ⌝ }
+    ensures { λ r. ⌜ Kept terms 1 (now (words .entry)) used r (now (words .exit)) ⌝ }
 {
+    let i = used.records;
     let slots = o.slots;
     if let Unknown::At(q) = names::unknown_name(text, at, o.members, &slots, &POSOLOGY_SEQUENCE) {
         return Visit::Refused(5, q);
     }
-    let f = field::integer_field(text, at, slots[DU], 1, 99999);
-    let Field::Is(du) = f else {
-        return up(f);
+    let f = field::integer_field(text, at, slots[DU], 1, 99999, terms::one_more(used));
+    let Counted::Is(du, used) = f else {
+        return up_counted(f);
     };
-    let f = field::integer_field(text, at, slots[DU_U], 1, 7);
-    let Field::Is(unit) = f else {
-        return up(f);
+    let f = field::integer_field(text, at, slots[DU_U], 1, 7, used);
+    let Counted::Is(unit, used) = f else {
+        return up_counted(f);
     };
-    let r = read_detail(text, at, slots[PO], left, room, rows::one_more(used), words);
+    let r = read_detail(text, at, slots[PO], left, terms, used, words);
     let Visit::Done(done) = r else {
         return r;
     };
-    rows::above(words, used, done, 15, du, unit, 0, 0)
+    rows::store(words, i, done, 15, du, unit, 0, 0)
 }
 
 // One object of a sequence.
@@ -272,25 +219,26 @@ fn read_sequence_object(
     text: &[u8],
     at: usize,
     left: usize,
-    room: usize,
+    terms: Terms,
     used: Used,
     words: &mut [u64],
 ) -> Visit
-    requires { ⌜ Ready (now words) used × (at ≤ length (now text)) × (used .text ≤ room) ⌝ }
-    ensures { λ r. ⌜ VisitsObjectIn room (aSequenceObject left) (ObjectIn (now (text .entry))) (now (text .entry)) at used (now (words .entry)) r (now (words .exit)) ⌝ }
-    ensures { λ r. ⌜ KeptIn room 1 (now (words .entry)) used r (now (words .exit)) ⌝ }
+    requires { ⌜ Ready terms (now words) used × (at ≤ length (now text)) ⌝ }
+    ensures { λ r. ⌜ VisitsObject terms (aSequenceObject left) (ObjectIn (now (text .entry))) (now (text .entry)) at used (now (words .entry)) r (now (words .exit)) ⌝ }
+    ensures { λ r. ⌜ Kept terms 1 (now (words .entry)) used r (now (words .exit)) ⌝ }
 {
-    let o = opened::open_typed(text, at, 2);
-    if o.refused {
-        return Visit::Refused(o.number, o.place);
-    }
-    if rows::is_full(used) {
+    let o = opened::open_typed(text, at, 2, used);
+    let answer = o.answer;
+    let Opened::Is(kind, behind) = answer else {
+        return opened::up(answer);
+    };
+    if rows::is_full(behind) {
         return Visit::Refused(15, at);
     }
-    let kind = o.kind;
+    let object = o.object;
     match kind {
-        1 => posology_sequence(text, at, o, left, room, used, words),
-        _ => pause(text, at, o, used, words),
+        1 => posology_sequence(text, at, object, left, terms, behind, words),
+        _ => pause(text, at, object, terms, behind, words),
     }
 }
 
@@ -299,13 +247,13 @@ fn read_objects(
     text: &[u8],
     at: usize,
     left: usize,
-    room: usize,
+    terms: Terms,
     first: Used,
     words: &mut [u64],
 ) -> Visit
-    requires { ⌜ Ready (now words) first × (at ≤ length (now text)) × (first .text ≤ room) ⌝ }
-    ensures { λ r. ⌜ VisitsEachIn room (aSequenceObject left) (ObjectsIn (now (text .entry))) (now (text .entry)) at first (now (words .entry)) r (now (words .exit)) ⌝ }
-    ensures { λ r. ⌜ KeptIn room 0 (now (words .entry)) first r (now (words .exit)) ⌝ }
+    requires { ⌜ Ready terms (now words) first × (at ≤ length (now text)) ⌝ }
+    ensures { λ r. ⌜ VisitsEach terms (aSequenceObject left) (ObjectsIn (now (text .entry))) (now (text .entry)) at first (now (words .entry)) r (now (words .exit)) ⌝ }
+    ensures { λ r. ⌜ Kept terms 0 (now (words .entry)) first r (now (words .exit)) ⌝ }
 {
     let mut used = first;
     let mut e = moving::first_in(text, at);
@@ -317,7 +265,7 @@ fn read_objects(
         let Found::At(v) = f else {
             return up_found(f);
         };
-        let r = read_sequence_object(text, v, left, room, used, words);
+        let r = read_sequence_object(text, v, left, terms, used, words);
         let Visit::Done(done) = r else {
             return r;
         };
@@ -330,16 +278,17 @@ fn read_objects(
 fn read_sequence(
     text: &[u8],
     at: usize,
-    o: Opened,
+    o: Object,
     inside: usize,
-    room: usize,
+    terms: Terms,
     used: Used,
     words: &mut [u64],
 ) -> Visit
-    requires { ⌜ Ready (now words) used × (used .records < 64) × (at ≤ length (now text)) × (used .text ≤ room) ⌝ }
-    ensures { λ r. ⌜ VisitsBodyIn room (aDetail (suc inside)) 5 (DetailAt (now (text .entry))) (now (text .entry)) at o used (now (words .entry)) r (now (words .exit)) ⌝ }
-    ensures { λ r. ⌜ KeptIn room 1 (now (words .entry)) used r (now (words .exit)) ⌝ }
+    requires { ⌜ Ready terms (now words) used × (used .records < 64) × (at ≤ length (now text)) ⌝ }
+    ensures { λ r. ⌜ VisitsTyped terms (aDetail (suc inside)) 5 (DetailAt (now (text .entry))) (now (text .entry)) at o used (now (words .entry)) r (now (words .exit)) ⌝ }
+    ensures { λ r. ⌜ Kept terms 1 (now (words .entry)) used r (now (words .exit)) ⌝ }
 {
+    let i = used.records;
     let slots = o.slots;
     if let Unknown::At(q) = names::unknown_name(text, at, o.members, &slots, &SEQUENCE) {
         return Visit::Refused(5, q);
@@ -351,32 +300,56 @@ fn read_sequence(
     if moving::at_end(text, moving::first_in(text, l)) {
         return Visit::Refused(11, l);
     }
-    let r = read_objects(text, l, inside, room, rows::one_more(used), words);
+    let r = read_objects(text, l, inside, terms, terms::one_more(used), words);
     let Visit::Done(done) = r else {
         return r;
     };
-    rows::above(words, used, done, 5, 0, 0, 0, 0)
+    rows::store(words, i, done, 5, 0, 0, 0, 0)
+}
+
+// 14 where no sequence may open, 15 where no record is left.
+fn open_sequence(
+    text: &[u8],
+    at: usize,
+    o: Object,
+    left: usize,
+    terms: Terms,
+    used: Used,
+    words: &mut [u64],
+) -> Visit
+    requires { ⌜ Ready terms (now words) used × (at ≤ length (now text)) ⌝ }
+    ensures { λ r. ⌜ VisitsSequence terms left (now (text .entry)) at o used (now (words .entry)) r (now (words .exit)) ⌝ }
+    ensures { λ r. ⌜ Kept terms 1 (now (words .entry)) used r (now (words .exit)) ⌝ }
+{
+    let slots = o.slots;
+    if left == 0 {
+        return Visit::Refused(14, slots[T]);
+    }
+    if rows::is_full(used) {
+        return Visit::Refused(15, at);
+    }
+    read_sequence(text, at, o, left - 1, terms, used, words)
 }
 
 // The detail by its type, which is 1 to 4.
 fn plain_detail(
     text: &[u8],
     at: usize,
-    o: Opened,
-    room: usize,
+    kind: u64,
+    o: Object,
+    terms: Terms,
     used: Used,
     words: &mut [u64],
 ) -> Visit
-    requires { ⌜ Ready (now words) used × (used .records < 64) × (at ≤ length (now text)) × (used .text ≤ room) ⌝ }
-    ensures { λ r. ⌜ (1 ≤ o .kind → o .kind ≤ 4 → (n : ℕ) → VisitsBodyIn room (aDetail n) (o .kind) (DetailAt (now (text .entry))) (now (text .entry)) at o used (now (words .entry)) r (now (words .exit))) ⌝ }
-    ensures { λ r. ⌜ KeptIn room 1 (now (words .entry)) used r (now (words .exit)) ⌝ }
+    requires { ⌜ Ready terms (now words) used × (used .records < 64) × (at ≤ length (now text)) ⌝ }
+    ensures { λ r. ⌜ (1 ≤ kind → kind ≤ 4 → (n : ℕ) → VisitsTyped terms (aDetail n) kind (DetailAt (now (text .entry))) (now (text .entry)) at o used (now (words .entry)) r (now (words .exit))) ⌝ }
+    ensures { λ r. ⌜ Kept terms 1 (now (words .entry)) used r (now (words .exit)) ⌝ }
 {
-    let kind = o.kind;
     match kind {
-        1 => daily(text, at, o, used, words),
-        2 => free_text(text, at, o, room, used, words),
-        3 => single(text, at, o, used, words),
-        _ => cyclic(text, at, o, used, words),
+        1 => daily(text, at, o, terms, used, words),
+        2 => free_text(text, at, o, terms, used, words),
+        3 => single(text, at, o, terms, used, words),
+        _ => cyclic(text, at, o, terms, used, words),
     }
 }
 
@@ -385,32 +358,29 @@ fn visit_detail(
     text: &[u8],
     at: usize,
     left: usize,
-    room: usize,
+    terms: Terms,
     used: Used,
     words: &mut [u64],
 ) -> Visit
-    requires { ⌜ Ready (now words) used × (at ≤ length (now text)) × (used .text ≤ room) ⌝ }
-    ensures { λ r. ⌜ VisitsObjectIn room (aDetail left) (DetailAt (now (text .entry))) (now (text .entry)) at used (now (words .entry)) r (now (words .exit)) ⌝ }
-    ensures { λ r. ⌜ KeptIn room 1 (now (words .entry)) used r (now (words .exit)) ⌝ }
+    requires { ⌜ Ready terms (now words) used × (at ≤ length (now text)) ⌝ }
+    ensures { λ r. ⌜ VisitsObject terms (aDetail left) (DetailAt (now (text .entry))) (now (text .entry)) at used (now (words .entry)) r (now (words .exit)) ⌝ }
+    ensures { λ r. ⌜ Kept terms 1 (now (words .entry)) used r (now (words .exit)) ⌝ }
 {
-    let o = opened::open_typed(text, at, 5);
-    if o.refused {
-        return Visit::Refused(o.number, o.place);
-    }
-    let slots = o.slots;
-    if o.kind == 5 {
-        if left == 0 {
-            return Visit::Refused(14, slots[T]);
+    let o = opened::open_typed(text, at, 5, used);
+    let answer = o.answer;
+    let Opened::Is(kind, behind) = answer else {
+        return opened::up(answer);
+    };
+    let object = o.object;
+    match kind {
+        5 => open_sequence(text, at, object, left, terms, behind, words),
+        _ => {
+            if rows::is_full(behind) {
+                return Visit::Refused(15, at);
+            }
+            plain_detail(text, at, kind, object, terms, behind, words)
         }
-        if rows::is_full(used) {
-            return Visit::Refused(15, at);
-        }
-        return read_sequence(text, at, o, left - 1, room, used, words);
     }
-    if rows::is_full(used) {
-        return Visit::Refused(15, at);
-    }
-    plain_detail(text, at, o, room, used, words)
 }
 
 // The detail that must stand at v in the object at `brace`.
@@ -419,34 +389,44 @@ fn read_detail(
     brace: usize,
     v: usize,
     left: usize,
-    room: usize,
+    terms: Terms,
     used: Used,
     words: &mut [u64],
 ) -> Visit
-    requires { ⌜ Ready (now words) used × (brace ≤ length (now text)) × (used .text ≤ room) ⌝ }
-    ensures { λ r. ⌜ VisitsNeededIn room (aDetail left) (DetailAt (now (text .entry))) (now (text .entry)) brace v used (now (words .entry)) r (now (words .exit)) ⌝ }
-    ensures { λ r. ⌜ KeptIn room 1 (now (words .entry)) used r (now (words .exit)) ⌝ }
+    requires { ⌜ Ready terms (now words) used × (brace ≤ length (now text)) ⌝ }
+    ensures { λ r. ⌜ VisitsNeeded terms (aDetail left) (DetailAt (now (text .entry))) (now (text .entry)) brace v used (now (words .entry)) r (now (words .exit)) ⌝ }
+    ensures { λ r. ⌜ Kept terms 1 (now (words .entry)) used r (now (words .exit)) ⌝ }
 {
     let f = field::object_field(text, brace, v);
     let Found::At(at) = f else {
         return up_found(f);
     };
-    visit_detail(text, at, left, room, used, words)
+    visit_detail(text, at, left, terms, used, words)
 }
 
-// The detail of the posology at `brace`, for whatever is lent: words of another number, or a brace behind the text, are refused with 0.
-pub fn read_po(text: &[u8], brace: usize, v: usize, room: usize, words: &mut [u64]) -> Visit
-    ensures { λ r. ⌜ AnswersDetail room (now (text .entry)) brace v (now (words .entry)) r (now (words .exit)) ⌝ }
+// The detail of the posology at `brace`, for whatever is lent: words of another number, more taken than there is, or a brace behind the text are
+// refused with 0.
+pub fn read_po(
+    text: &[u8],
+    brace: usize,
+    v: usize,
+    terms: Terms,
+    used: Used,
+    words: &mut [u64],
+) -> Visit
+    ensures { λ r. ⌜ AnswersDetail terms (now (text .entry)) brace v used (now (words .entry)) r (now (words .exit)) ⌝ }
 {
     if words.len() != WORDS {
+        return Visit::Refused(0, 0);
+    }
+    if RECORDS < used.records {
+        return Visit::Refused(0, 0);
+    }
+    if terms.room < used.text {
         return Visit::Refused(0, 0);
     }
     if text.len() < brace {
         return Visit::Refused(0, 0);
     }
-    let none = Used {
-        records: 0,
-        text: 0,
-    };
-    read_detail(text, brace, v, SEQUENCES, room, none, words)
+    read_detail(text, brace, v, SEQUENCES, terms, used, words)
 }

@@ -7,6 +7,7 @@ use borrow.Author.Needs.{needs}
 use lib.ListN.{set, replicate}
 use Rattle.document.specs.Table.{noRecord}
 use Rattle.document.specs.declared.table.Record.{Record}
+use Rattle.document.specs.Words.{width}
 use Rattle.building.specs.Built.{recordsOf}
 use Rattle.kinds.specs.Kinds.{recordIn, groups}
 use Rattle.kinds.proofs.Fill.{groups-set}
@@ -48,7 +49,7 @@ loop-again c =
     let words = c .before .before .before .before .args .words .now in (
       omega arith,
       ap (λ (rs : List Record). set rs i (c .record-at .result)) (c .before .before .before .loop .inv .1)
-          ∙ groups-set 6 recordIn 64 i words noRecord (c .record-at .result) (omega arith) (c .record-at .ensures ∙ record-inside words (i * 6) (omega arith)),
+          ∙ groups-set width recordIn 64 i words noRecord (c .record-at .result) (omega arith) (c .record-at .ensures ∙ record-inside words (i * width) (omega arith)),
     )
 
 returns : tie.Need-returns Inv-loop μ-loop

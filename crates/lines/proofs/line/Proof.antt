@@ -50,7 +50,7 @@ returns-2 c =
     let was-read = c .before .before .before .before .before .before .before .before .before in
     let args = was-read .before .before .before .before .args in
     let e = read-refused (was-read .read .ensures) refl (c .before .before .before .before .before .a .given .1) in
-    let near = read-near _ _ _ e in
+    let near = read-near _ _ e in
     puts-as (line-is (length (args .out .now)) (args .input .now) _ e)
     (c .before .before .put-refusal .ensures (omega arith) (omega arith))
 

@@ -1,16 +1,19 @@
 -- `dosages::dosage::from_to` meets its contract: a dosage of type 2, field by field.
-use mathlib.Core.Path.{refl, ap, _∙_}
+use mathlib.Core.Path.{refl, ap, sym, _∙_}
 use native.Mathlib.Omega.{arith}
-use borrow.Author.Tests.{le-ltb, lt-ltb}
 use lib.ListN.{length, length-set}
+use borrow.Author.Tests.{le-ltb, lt-ltb}
+use Rattle.document.specs.Posology as P
+use Rattle.document.specs.Schema.{rowsOf, fromToRows}
 use Rattle.document.specs.Visit.{entriesOf}
 use Rattle.document.specs.Words.{words}
-use Rattle.dosages.specs.Visiting.{leftOf}
-use Rattle.records.specs.Records.{more}
-use Rattle.dosages.proofs.Rowed.{leaf-did, kept-refused, kept-done}
-use Rattle.dosages.proofs.Bodies.{object-at, body-opens, body-unknown, refuses-as, refuses-bind, done-bind, guard-holds, guard-fails, reads-done, reads-refused}
-use Rattle.dosages.proofs.Known.{from-to-known, from-to-fields}
-use Rattle.records.proofs.Records.{leaf-stores}
+use Rattle.document.proofs.Taken.{one-more, still-same, still-then}
+use Rattle.names.specs.Names.{names, nameAt}
+use Rattle.records.proofs.Records.{stores}
+use Rattle.dosages.proofs.Rowed.{kept-refused, kept-done, one-grown}
+use Rattle.dosages.proofs.Bodies.{object-at, body-opens, body-unknown, took-number, stopped-number, took-integer, stopped-integer, guard-holds, guard-fails}
+use Rattle.dosages.proofs.Chunks.{dosage-did}
+use Rattle.dosages.proofs.Known.{from-to-known}
 use borrow.Author.Needs.{needs}
 use Rattle.dosages.proofs.dosage.from_to.Statement.{statement}
 use Rattle.dosages.proofs.dosage.from_to.Tie as tie
@@ -27,9 +30,8 @@ enum-known-q c = search needs
 returns : tie.Need-returns
 returns c =
     let s = c .before .before .before .before .before .before .before .before .before in (
-      λ room p ms a once fits.
-          (body-unknown from-to-known p (entriesOf ms) room (s .args .used) (s .pre .1) _ (c .before .before .before .unknown-name .ensures refl p ms a once) (c .before .q .given .1), refl),
-      kept-refused 1 (s .args .used) refl refl,
+      λ l tells p ms a once. (body-unknown from-to-known tells (s .pre .1) p (entriesOf ms) _ (c .before .before .before .unknown-name .ensures refl p ms a once) (c .before .q .given .1), refl),
+      kept-refused (s .args .terms) 1 (s .args .used) refl refl,
     )
 
 enum-told : tie.Need-enum-told
@@ -51,18 +53,15 @@ up-requires : tie.Need-up-requires
 up-requires c κs = search needs
 
 returns-2 : tie.Need-returns-2
+unfolding rowsOf fromToRows nameAt names
 returns-2 c =
     let s = c .before .before .before .before .before .before .before .before .before .before .before .before in
-    let up = c .up .ensures _ _ (c .before .enum-told2 .given .1) in (
-      λ room p ms a once fits.
-          rw (up, object-at a) (
-            refuses-as
-                (body-opens from-to-known _ (entriesOf ms) room (s .args .used) (s .pre .1) _ (c .before .before .before .before .before .before .unknown-name .ensures refl p ms a once) (c .before .before .before .before .enum-told .given .1)
-                ∙ from-to-fields _ (entriesOf ms) (leftOf room (more (s .args .used))))
-                (refuses-bind _ (reads-refused _ _ (c .before .before .before .decimal-field .ensures (s .pre .2) _ (once .slot 16 (omega arith)) _) (c .before .enum-told2 .given .1))),
-            refl,
-          ),
-      kept-refused 1 (s .args .used) up refl,
+    let told = c .before .enum-told2 .given .1 in
+    let up = c .up .ensures _ _ told in (
+      λ l tells p ms a once.
+          let b = body-opens from-to-known tells (s .pre .1) p (entriesOf ms) _ (c .before .before .before .before .before .before .unknown-name .ensures refl p ms a once) (c .before .before .before .before .enum-told .given .1) refl (object-at a) in
+          rw up (stopped-number b _ (c .before .before .before .decimal-field .ensures (s .pre .2) _ (once .slot 16 (omega arith))) told, refl),
+      kept-refused (s .args .terms) 1 (s .args .used) up refl,
     )
 
 array-read-decimal-field-2 : tie.Need-array-read-decimal-field-2
@@ -81,20 +80,20 @@ up-requires-2 : tie.Need-up-requires-2
 up-requires-2 c κs = search needs
 
 returns-3 : tie.Need-returns-3
+unfolding rowsOf fromToRows nameAt names
 returns-3 c =
     let s = c .before .before .before .before .before .before .before .before .before .before .before .before .before .before .before .before in
-    let up = c .up2 .ensures _ _ (c .before .enum-told3 .given .1) in (
-      λ room p ms a once fits.
-          rw (up, object-at a) (
-            refuses-as
-                (body-opens from-to-known _ (entriesOf ms) room (s .args .used) (s .pre .1) _ (c .before .before .before .before .before .before .before .before .before .before .unknown-name .ensures refl p ms a once) (c .before .before .before .before .before .before .before .before .enum-told .given .1)
-                ∙ from-to-fields _ (entriesOf ms) (leftOf room (more (s .args .used)))
-                ∙ done-bind _ (reads-done _ (c .before .before .before .before .before .before .before .decimal-field .ensures (s .pre .2) _ (once .slot 16 (omega arith)) _) (c .before .before .before .before .before .f .given .1)))
-                (refuses-bind _ (reads-refused _ _ (c .before .before .before .decimal-field2 .ensures (s .pre .2) _ (once .slot 17 (omega arith)) _) (c .before .enum-told3 .given .1))),
-            refl,
-          ),
-      kept-refused 1 (s .args .used) up refl,
+    let told = c .before .enum-told3 .given .1 in
+    let up = c .up2 .ensures _ _ told in (
+      λ l tells p ms a once.
+          let b = body-opens from-to-known tells (s .pre .1) p (entriesOf ms) _ (c .before .before .before .before .before .before .before .before .before .before .unknown-name .ensures refl p ms a once) (c .before .before .before .before .before .before .before .before .enum-told .given .1) refl (object-at a) in
+          let b1 = took-number b _ (c .before .before .before .before .before .before .before .decimal-field .ensures (s .pre .2) _ (once .slot 16 (omega arith))) (c .before .before .before .before .before .f .given .1) in
+          rw up (stopped-number b1 _ (c .before .before .before .decimal-field2 .ensures (s .pre .2) _ (once .slot 17 (omega arith))) told, refl),
+      kept-refused (s .args .terms) 1 (s .args .used) up refl,
     )
+
+one-more-requires : tie.Need-one-more-requires
+one-more-requires c κs = search needs
 
 array-read-integer-field : tie.Need-array-read-integer-field
 array-read-integer-field c = search needs
@@ -108,24 +107,21 @@ enum-known-f-3 c = search needs
 enum-told-4 : tie.Need-enum-told-4
 enum-told-4 c = search needs
 
-up-requires-3 : tie.Need-up-requires-3
-up-requires-3 c κs = search needs
+up-counted-requires : tie.Need-up-counted-requires
+up-counted-requires c κs = search needs
 
 returns-4 : tie.Need-returns-4
+unfolding rowsOf fromToRows nameAt names
 returns-4 c =
-    let s = c .before .before .before .before .before .before .before .before .before .before .before .before .before .before .before .before .before .before .before .before in
-    let up = c .up3 .ensures _ _ (c .before .enum-told4 .given .1) in (
-      λ room p ms a once fits.
-          rw (up, object-at a) (
-            refuses-as
-                (body-opens from-to-known _ (entriesOf ms) room (s .args .used) (s .pre .1) _ (c .before .before .before .before .before .before .before .before .before .before .before .before .before .before .unknown-name .ensures refl p ms a once) (c .before .before .before .before .before .before .before .before .before .before .before .before .enum-told .given .1)
-                ∙ from-to-fields _ (entriesOf ms) (leftOf room (more (s .args .used)))
-                ∙ done-bind _ (reads-done _ (c .before .before .before .before .before .before .before .before .before .before .before .decimal-field .ensures (s .pre .2) _ (once .slot 16 (omega arith)) _) (c .before .before .before .before .before .before .before .before .before .f .given .1))
-                ∙ done-bind _ (reads-done _ (c .before .before .before .before .before .before .before .decimal-field2 .ensures (s .pre .2) _ (once .slot 17 (omega arith)) _) (c .before .before .before .before .before .f2 .given .1)))
-                (refuses-bind _ (reads-refused _ _ (c .before .before .before .integer-field .ensures (s .pre .2) _ (once .slot 18 (omega arith)) _) (c .before .enum-told4 .given .1))),
-            refl,
-          ),
-      kept-refused 1 (s .args .used) up refl,
+    let s = c .before .before .before .before .before .before .before .before .before .before .before .before .before .before .before .before .before .before .before .before .before in
+    let told = c .before .enum-told4 .given .1 in
+    let up = c .up-counted .ensures _ _ told in (
+      λ l tells p ms a once.
+          let b = body-opens from-to-known tells (s .pre .1) p (entriesOf ms) _ (c .before .before .before .before .before .before .before .before .before .before .before .before .before .before .before .unknown-name .ensures refl p ms a once) (c .before .before .before .before .before .before .before .before .before .before .before .before .before .enum-told .given .1) (one-more (s .pre .1) (c .before .before .before .before .one-more .ensures)) (object-at a) in
+          let b1 = took-number b _ (c .before .before .before .before .before .before .before .before .before .before .before .before .decimal-field .ensures (s .pre .2) _ (once .slot 16 (omega arith))) (c .before .before .before .before .before .before .before .before .before .before .f .given .1) in
+          let b2 = took-number b1 _ (c .before .before .before .before .before .before .before .before .decimal-field2 .ensures (s .pre .2) _ (once .slot 17 (omega arith))) (c .before .before .before .before .before .before .f2 .given .1) in
+          rw up (stopped-integer b2 _ (c .before .before .before .integer-field .ensures .0 (s .pre .2) _ (once .slot 18 (omega arith))) told, refl),
+      kept-refused (s .args .terms) 1 (s .args .used) up refl,
     )
 
 array-read-integer-field-2 : tie.Need-array-read-integer-field-2
@@ -140,70 +136,59 @@ enum-known-f-4 c = search needs
 enum-told-5 : tie.Need-enum-told-5
 enum-told-5 c = search needs
 
-up-requires-4 : tie.Need-up-requires-4
-up-requires-4 c κs = search needs
+up-counted-requires-2 : tie.Need-up-counted-requires-2
+up-counted-requires-2 c κs = search needs
 
 returns-5 : tie.Need-returns-5
+unfolding rowsOf fromToRows nameAt names
 returns-5 c =
-    let s = c .before .before .before .before .before .before .before .before .before .before .before .before .before .before .before .before .before .before .before .before .before .before .before .before in
-    let up = c .up4 .ensures _ _ (c .before .enum-told5 .given .1) in (
-      λ room p ms a once fits.
-          rw (up, object-at a) (
-            refuses-as
-                (body-opens from-to-known _ (entriesOf ms) room (s .args .used) (s .pre .1) _ (c .before .before .before .before .before .before .before .before .before .before .before .before .before .before .before .before .before .before .unknown-name .ensures refl p ms a once) (c .before .before .before .before .before .before .before .before .before .before .before .before .before .before .before .before .enum-told .given .1)
-                ∙ from-to-fields _ (entriesOf ms) (leftOf room (more (s .args .used)))
-                ∙ done-bind _ (reads-done _ (c .before .before .before .before .before .before .before .before .before .before .before .before .before .before .before .decimal-field .ensures (s .pre .2) _ (once .slot 16 (omega arith)) _) (c .before .before .before .before .before .before .before .before .before .before .before .before .before .f .given .1))
-                ∙ done-bind _ (reads-done _ (c .before .before .before .before .before .before .before .before .before .before .before .decimal-field2 .ensures (s .pre .2) _ (once .slot 17 (omega arith)) _) (c .before .before .before .before .before .before .before .before .before .f2 .given .1))
-                ∙ done-bind _ (reads-done _ (c .before .before .before .before .before .before .before .integer-field .ensures (s .pre .2) _ (once .slot 18 (omega arith)) _) (c .before .before .before .before .before .f3 .given .1)))
-                (refuses-bind _ (reads-refused _ _ (c .before .before .before .integer-field2 .ensures (s .pre .2) _ (once .slot 19 (omega arith)) _) (c .before .enum-told5 .given .1))),
-            refl,
-          ),
-      kept-refused 1 (s .args .used) up refl,
+    let s = c .before .before .before .before .before .before .before .before .before .before .before .before .before .before .before .before .before .before .before .before .before .before .before .before .before in
+    let told = c .before .enum-told5 .given .1 in
+    let up = c .up-counted2 .ensures _ _ told in (
+      λ l tells p ms a once.
+          let b = body-opens from-to-known tells (s .pre .1) p (entriesOf ms) _ (c .before .before .before .before .before .before .before .before .before .before .before .before .before .before .before .before .before .before .before .unknown-name .ensures refl p ms a once) (c .before .before .before .before .before .before .before .before .before .before .before .before .before .before .before .before .before .enum-told .given .1) (one-more (s .pre .1) (c .before .before .before .before .before .before .before .before .one-more .ensures)) (object-at a) in
+          let b1 = took-number b _ (c .before .before .before .before .before .before .before .before .before .before .before .before .before .before .before .before .decimal-field .ensures (s .pre .2) _ (once .slot 16 (omega arith))) (c .before .before .before .before .before .before .before .before .before .before .before .before .before .before .f .given .1) in
+          let b2 = took-number b1 _ (c .before .before .before .before .before .before .before .before .before .before .before .before .decimal-field2 .ensures (s .pre .2) _ (once .slot 17 (omega arith))) (c .before .before .before .before .before .before .before .before .before .before .f2 .given .1) in
+          let b3 = took-integer b2 _ (c .before .before .before .before .before .before .before .integer-field .ensures .0 (s .pre .2) _ (once .slot 18 (omega arith))) (c .before .before .before .before .before .f3 .given .1) in
+          rw up (stopped-integer b3 _ (c .before .before .before .integer-field2 .ensures .0 (s .pre .2) _ (once .slot 19 (omega arith))) told, refl),
+      kept-refused (s .args .terms) 1 (s .args .used) up refl,
     )
 
 returns-6 : tie.Need-returns-6
+unfolding rowsOf fromToRows nameAt names
 returns-6 c =
-    let s = c .before .before .before .before .before .before .before .before .before .before .before .before .before .before .before .before .before .before .before .before .before .before .before .before .before in (
-      λ room p ms a once fits.
-          rw (object-at a) (
-            record {
-              outcome =
-                  body-opens from-to-known _ (entriesOf ms) room (s .args .used) (s .pre .1) _ (c .before .before .before .before .before .before .before .before .before .before .before .before .before .before .before .before .before .before .before .unknown-name .ensures refl p ms a once) (c .before .before .before .before .before .before .before .before .before .before .before .before .before .before .before .before .before .enum-told .given .1)
-                  ∙ from-to-fields _ (entriesOf ms) (leftOf room (more (s .args .used)))
-                  ∙ done-bind _ (reads-done _ (c .before .before .before .before .before .before .before .before .before .before .before .before .before .before .before .before .decimal-field .ensures (s .pre .2) _ (once .slot 16 (omega arith)) _) (c .before .before .before .before .before .before .before .before .before .before .before .before .before .before .f .given .1))
-                  ∙ done-bind _ (reads-done _ (c .before .before .before .before .before .before .before .before .before .before .before .before .decimal-field2 .ensures (s .pre .2) _ (once .slot 17 (omega arith)) _) (c .before .before .before .before .before .before .before .before .before .before .f2 .given .1))
-                  ∙ done-bind _ (reads-done _ (c .before .before .before .before .before .before .before .before .integer-field .ensures (s .pre .2) _ (once .slot 18 (omega arith)) _) (c .before .before .before .before .before .before .f3 .given .1))
-                  ∙ done-bind _ (reads-done _ (c .before .before .before .before .integer-field2 .ensures (s .pre .2) _ (once .slot 19 (omega arith)) _) (c .before .before .f4 .given .1))
-                  ∙ guard-fails 12 _ _ (le-ltb _ _ (c .if1 .taken));
-              inside = s .pre .2;
-            },
-            refl,
-          ),
-      kept-refused 1 (s .args .used) refl refl,
+    let s = c .before .before .before .before .before .before .before .before .before .before .before .before .before .before .before .before .before .before .before .before .before .before .before .before .before .before in (
+      λ l tells p ms a once.
+          let b = body-opens from-to-known tells (s .pre .1) p (entriesOf ms) _ (c .before .before .before .before .before .before .before .before .before .before .before .before .before .before .before .before .before .before .before .before .unknown-name .ensures refl p ms a once) (c .before .before .before .before .before .before .before .before .before .before .before .before .before .before .before .before .before .before .enum-told .given .1) (one-more (s .pre .1) (c .before .before .before .before .before .before .before .before .before .one-more .ensures)) (object-at a) in
+          let b1 = took-number b _ (c .before .before .before .before .before .before .before .before .before .before .before .before .before .before .before .before .before .decimal-field .ensures (s .pre .2) _ (once .slot 16 (omega arith))) (c .before .before .before .before .before .before .before .before .before .before .before .before .before .before .before .f .given .1) in
+          let b2 = took-number b1 _ (c .before .before .before .before .before .before .before .before .before .before .before .before .before .decimal-field2 .ensures (s .pre .2) _ (once .slot 17 (omega arith))) (c .before .before .before .before .before .before .before .before .before .before .before .f2 .given .1) in
+          let b3 = took-integer b2 _ (c .before .before .before .before .before .before .before .before .integer-field .ensures .0 (s .pre .2) _ (once .slot 18 (omega arith))) (c .before .before .before .before .before .before .f3 .given .1) in
+          let b4 = took-integer b3 _ (c .before .before .before .before .integer-field2 .ensures .0 (s .pre .2) _ (once .slot 19 (omega arith))) (c .before .before .f4 .given .1) in
+          (record { outcome = b4 .outcome ∙ guard-fails 12 _ _ (le-ltb _ _ (c .if1 .taken)); inside = s .pre .2 }, refl),
+      kept-refused (s .args .terms) 1 (s .args .used) refl refl,
     )
 
-leaf-requires : tie.Need-leaf-requires
-leaf-requires c κs = search needs
+store-requires : tie.Need-store-requires
+store-requires c κs = search needs
 
 same-length : tie.Need-same-length
 same-length c = search needs
 
 returns-7 : tie.Need-returns-7
+unfolding rowsOf fromToRows nameAt names
 returns-7 c =
-    let s = c .before .before .before .before .before .before .before .before .before .before .before .before .before .before .before .before .before .before .before .before .before .before .before .before .before .before .before .before .before in
-    let kept = leaf-stores _ _ _ (s .pre .0 .size) (s .pre .1) (c .before .before .leaf .ensures) in (
-      λ room p ms a once fits.
-          rw (kept .0, object-at a)
-          (leaf-did _ (words 0 13 _ _ _ _)
-          (body-opens from-to-known _ (entriesOf ms) room (s .args .used) (s .pre .1) _ (c .before .before .before .before .before .before .before .before .before .before .before .before .before .before .before .before .before .before .before .before .before .before .before .unknown-name .ensures refl p ms a once) (c .before .before .before .before .before .before .before .before .before .before .before .before .before .before .before .before .before .before .before .before .before .enum-told .given .1)
-          ∙ from-to-fields _ (entriesOf ms) (leftOf room (more (s .args .used)))
-          ∙ done-bind _ (reads-done _ (c .before .before .before .before .before .before .before .before .before .before .before .before .before .before .before .before .before .before .before .before .decimal-field .ensures (s .pre .2) _ (once .slot 16 (omega arith)) _) (c .before .before .before .before .before .before .before .before .before .before .before .before .before .before .before .before .before .before .f .given .1))
-          ∙ done-bind _ (reads-done _ (c .before .before .before .before .before .before .before .before .before .before .before .before .before .before .before .before .decimal-field2 .ensures (s .pre .2) _ (once .slot 17 (omega arith)) _) (c .before .before .before .before .before .before .before .before .before .before .before .before .before .before .f2 .given .1))
-          ∙ done-bind _ (reads-done _ (c .before .before .before .before .before .before .before .before .before .before .before .before .integer-field .ensures (s .pre .2) _ (once .slot 18 (omega arith)) _) (c .before .before .before .before .before .before .before .before .before .before .f3 .given .1))
-          ∙ done-bind _ (reads-done _ (c .before .before .before .before .before .before .before .before .integer-field2 .ensures (s .pre .2) _ (once .slot 19 (omega arith)) _) (c .before .before .before .before .before .before .f4 .given .1))
-          ∙ guard-holds 12 _ (lt-ltb _ _ (c .before .before .before .before .if1 .left)))
-          refl (s .pre .1) fits (kept .1)),
-      kept-done (kept .0) (simp length-set at (ap length (kept .1))) (record { some = omega arith; few = omega (arith, s .pre .1) }),
+    let s = c .before .before .before .before .before .before .before .before .before .before .before .before .before .before .before .before .before .before .before .before .before .before .before .before .before .before .before .before .before .before in
+    let one = one-more (s .pre .1) (c .before .before .before .before .before .before .before .before .before .before .before .before .before .one-more .ensures) in
+    let still = still-then (still-same (sym one)) (still-then (c .before .before .before .before .before .before .before .before .before .before .before .before .integer-field .ensures .1 .0 _ _ (c .before .before .before .before .before .before .before .before .before .before .f3 .given .1)) (c .before .before .before .before .before .before .before .before .integer-field2 .ensures .1 .0 _ _ (c .before .before .before .before .before .before .f4 .given .1))) in
+    let kept = stores _ _ (words _ 13 _ _ _ _) (s .pre .0 .size) (s .pre .1) (c .before .before .store .ensures) in (
+      λ l tells p ms a once.
+          let b = body-opens from-to-known tells (s .pre .1) p (entriesOf ms) _ (c .before .before .before .before .before .before .before .before .before .before .before .before .before .before .before .before .before .before .before .before .before .before .before .before .unknown-name .ensures refl p ms a once) (c .before .before .before .before .before .before .before .before .before .before .before .before .before .before .before .before .before .before .before .before .before .before .enum-told .given .1) one (object-at a) in
+          let b1 = took-number b _ (c .before .before .before .before .before .before .before .before .before .before .before .before .before .before .before .before .before .before .before .before .before .decimal-field .ensures (s .pre .2) _ (once .slot 16 (omega arith))) (c .before .before .before .before .before .before .before .before .before .before .before .before .before .before .before .before .before .before .before .f .given .1) in
+          let b2 = took-number b1 _ (c .before .before .before .before .before .before .before .before .before .before .before .before .before .before .before .before .before .decimal-field2 .ensures (s .pre .2) _ (once .slot 17 (omega arith))) (c .before .before .before .before .before .before .before .before .before .before .before .before .before .before .before .f2 .given .1) in
+          let b3 = took-integer b2 _ (c .before .before .before .before .before .before .before .before .before .before .before .before .integer-field .ensures .0 (s .pre .2) _ (once .slot 18 (omega arith))) (c .before .before .before .before .before .before .before .before .before .before .f3 .given .1) in
+          let b4 = took-integer b3 _ (c .before .before .before .before .before .before .before .before .integer-field2 .ensures .0 (s .pre .2) _ (once .slot 19 (omega arith))) (c .before .before .before .before .before .before .f4 .given .1) in
+          rw (kept .0) (dosage-did (P.fromTo _ _ _ _) (b4 .outcome ∙ guard-holds 12 _ (lt-ltb _ _ (c .before .before .before .before .if1 .left))) (b4 .tells) still (kept .1)),
+      kept-done (kept .0) (simp length-set at (ap length (kept .1))) (one-grown (s .pre .0) (s .pre .1) still),
     )
 
 pub from-to-spec : {M : Type 1} → statement M
@@ -227,19 +212,20 @@ from-to-spec =
     enum-told-3
     up-requires-2
     returns-3
+    one-more-requires
     array-read-integer-field
     integer-field-requires
     enum-known-f-3
     enum-told-4
-    up-requires-3
+    up-counted-requires
     returns-4
     array-read-integer-field-2
     integer-field-requires-2
     enum-known-f-4
     enum-told-5
-    up-requires-4
+    up-counted-requires-2
     returns-5
     returns-6
-    leaf-requires
+    store-requires
     same-length
     returns-7)

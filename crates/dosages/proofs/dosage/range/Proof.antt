@@ -1,16 +1,19 @@
 -- `dosages::dosage::range` meets its contract: a dosage of type 3, field by field.
-use mathlib.Core.Path.{refl, ap, _∙_}
+use mathlib.Core.Path.{refl, ap, sym, _∙_}
 use native.Mathlib.Omega.{arith}
-use borrow.Author.Tests.{le-ltb, lt-ltb}
 use lib.ListN.{length, length-set}
+use borrow.Author.Tests.{le-ltb, lt-ltb}
+use Rattle.document.specs.Posology as P
+use Rattle.document.specs.Schema.{rowsOf, rangeRows}
 use Rattle.document.specs.Visit.{entriesOf}
 use Rattle.document.specs.Words.{words}
-use Rattle.dosages.specs.Visiting.{leftOf}
-use Rattle.records.specs.Records.{more}
-use Rattle.dosages.proofs.Rowed.{leaf-did, kept-refused, kept-done}
-use Rattle.dosages.proofs.Bodies.{object-at, body-opens, body-unknown, refuses-as, refuses-bind, done-bind, guard-holds, guard-fails, reads-done, reads-refused}
-use Rattle.dosages.proofs.Known.{range-known, range-fields}
-use Rattle.records.proofs.Records.{leaf-stores}
+use Rattle.document.proofs.Taken.{one-more, still-same}
+use Rattle.names.specs.Names.{names, nameAt}
+use Rattle.records.proofs.Records.{stores}
+use Rattle.dosages.proofs.Rowed.{kept-refused, kept-done, one-grown}
+use Rattle.dosages.proofs.Bodies.{object-at, body-opens, body-unknown, took-number, stopped-number, guard-holds, guard-fails}
+use Rattle.dosages.proofs.Chunks.{dosage-did}
+use Rattle.dosages.proofs.Known.{range-known}
 use borrow.Author.Needs.{needs}
 use Rattle.dosages.proofs.dosage.range.Statement.{statement}
 use Rattle.dosages.proofs.dosage.range.Tie as tie
@@ -27,9 +30,8 @@ enum-known-q c = search needs
 returns : tie.Need-returns
 returns c =
     let s = c .before .before .before .before .before .before .before .before .before in (
-      λ room p ms a once fits.
-          (body-unknown range-known p (entriesOf ms) room (s .args .used) (s .pre .1) _ (c .before .before .before .unknown-name .ensures refl p ms a once) (c .before .q .given .1), refl),
-      kept-refused 1 (s .args .used) refl refl,
+      λ l tells p ms a once. (body-unknown range-known tells (s .pre .1) p (entriesOf ms) _ (c .before .before .before .unknown-name .ensures refl p ms a once) (c .before .q .given .1), refl),
+      kept-refused (s .args .terms) 1 (s .args .used) refl refl,
     )
 
 enum-told : tie.Need-enum-told
@@ -51,18 +53,15 @@ up-requires : tie.Need-up-requires
 up-requires c κs = search needs
 
 returns-2 : tie.Need-returns-2
+unfolding rowsOf rangeRows nameAt names
 returns-2 c =
     let s = c .before .before .before .before .before .before .before .before .before .before .before .before in
-    let up = c .up .ensures _ _ (c .before .enum-told2 .given .1) in (
-      λ room p ms a once fits.
-          rw (up, object-at a) (
-            refuses-as
-                (body-opens range-known _ (entriesOf ms) room (s .args .used) (s .pre .1) _ (c .before .before .before .before .before .before .unknown-name .ensures refl p ms a once) (c .before .before .before .before .enum-told .given .1)
-                ∙ range-fields _ (entriesOf ms) (leftOf room (more (s .args .used))))
-                (refuses-bind _ (reads-refused _ _ (c .before .before .before .decimal-field .ensures (s .pre .2) _ (once .slot 20 (omega arith)) _) (c .before .enum-told2 .given .1))),
-            refl,
-          ),
-      kept-refused 1 (s .args .used) up refl,
+    let told = c .before .enum-told2 .given .1 in
+    let up = c .up .ensures _ _ told in (
+      λ l tells p ms a once.
+          let b = body-opens range-known tells (s .pre .1) p (entriesOf ms) _ (c .before .before .before .before .before .before .unknown-name .ensures refl p ms a once) (c .before .before .before .before .enum-told .given .1) refl (object-at a) in
+          rw up (stopped-number b _ (c .before .before .before .decimal-field .ensures (s .pre .2) _ (once .slot 20 (omega arith))) told, refl),
+      kept-refused (s .args .terms) 1 (s .args .used) up refl,
     )
 
 array-read-decimal-field-2 : tie.Need-array-read-decimal-field-2
@@ -81,60 +80,52 @@ up-requires-2 : tie.Need-up-requires-2
 up-requires-2 c κs = search needs
 
 returns-3 : tie.Need-returns-3
+unfolding rowsOf rangeRows nameAt names
 returns-3 c =
     let s = c .before .before .before .before .before .before .before .before .before .before .before .before .before .before .before .before in
-    let up = c .up2 .ensures _ _ (c .before .enum-told3 .given .1) in (
-      λ room p ms a once fits.
-          rw (up, object-at a) (
-            refuses-as
-                (body-opens range-known _ (entriesOf ms) room (s .args .used) (s .pre .1) _ (c .before .before .before .before .before .before .before .before .before .before .unknown-name .ensures refl p ms a once) (c .before .before .before .before .before .before .before .before .enum-told .given .1)
-                ∙ range-fields _ (entriesOf ms) (leftOf room (more (s .args .used)))
-                ∙ done-bind _ (reads-done _ (c .before .before .before .before .before .before .before .decimal-field .ensures (s .pre .2) _ (once .slot 20 (omega arith)) _) (c .before .before .before .before .before .f .given .1)))
-                (refuses-bind _ (reads-refused _ _ (c .before .before .before .decimal-field2 .ensures (s .pre .2) _ (once .slot 21 (omega arith)) _) (c .before .enum-told3 .given .1))),
-            refl,
-          ),
-      kept-refused 1 (s .args .used) up refl,
+    let told = c .before .enum-told3 .given .1 in
+    let up = c .up2 .ensures _ _ told in (
+      λ l tells p ms a once.
+          let b = body-opens range-known tells (s .pre .1) p (entriesOf ms) _ (c .before .before .before .before .before .before .before .before .before .before .unknown-name .ensures refl p ms a once) (c .before .before .before .before .before .before .before .before .enum-told .given .1) refl (object-at a) in
+          let b1 = took-number b _ (c .before .before .before .before .before .before .before .decimal-field .ensures (s .pre .2) _ (once .slot 20 (omega arith))) (c .before .before .before .before .before .f .given .1) in
+          rw up (stopped-number b1 _ (c .before .before .before .decimal-field2 .ensures (s .pre .2) _ (once .slot 21 (omega arith))) told, refl),
+      kept-refused (s .args .terms) 1 (s .args .used) up refl,
     )
 
 returns-4 : tie.Need-returns-4
+unfolding rowsOf rangeRows nameAt names
 returns-4 c =
     let s = c .before .before .before .before .before .before .before .before .before .before .before .before .before .before .before .before .before in (
-      λ room p ms a once fits.
-          rw (object-at a) (
-            record {
-              outcome =
-                  body-opens range-known _ (entriesOf ms) room (s .args .used) (s .pre .1) _ (c .before .before .before .before .before .before .before .before .before .before .before .unknown-name .ensures refl p ms a once) (c .before .before .before .before .before .before .before .before .before .enum-told .given .1)
-                  ∙ range-fields _ (entriesOf ms) (leftOf room (more (s .args .used)))
-                  ∙ done-bind _ (reads-done _ (c .before .before .before .before .before .before .before .before .decimal-field .ensures (s .pre .2) _ (once .slot 20 (omega arith)) _) (c .before .before .before .before .before .before .f .given .1))
-                  ∙ done-bind _ (reads-done _ (c .before .before .before .before .decimal-field2 .ensures (s .pre .2) _ (once .slot 21 (omega arith)) _) (c .before .before .f2 .given .1))
-                  ∙ guard-fails 12 _ _ (le-ltb _ _ (c .if1 .taken));
-              inside = s .pre .2;
-            },
-            refl,
-          ),
-      kept-refused 1 (s .args .used) refl refl,
+      λ l tells p ms a once.
+          let b = body-opens range-known tells (s .pre .1) p (entriesOf ms) _ (c .before .before .before .before .before .before .before .before .before .before .before .unknown-name .ensures refl p ms a once) (c .before .before .before .before .before .before .before .before .before .enum-told .given .1) refl (object-at a) in
+          let b1 = took-number b _ (c .before .before .before .before .before .before .before .before .decimal-field .ensures (s .pre .2) _ (once .slot 20 (omega arith))) (c .before .before .before .before .before .before .f .given .1) in
+          let b2 = took-number b1 _ (c .before .before .before .before .decimal-field2 .ensures (s .pre .2) _ (once .slot 21 (omega arith))) (c .before .before .f2 .given .1) in
+          (record { outcome = b2 .outcome ∙ guard-fails 12 _ _ (le-ltb _ _ (c .if1 .taken)); inside = s .pre .2 }, refl),
+      kept-refused (s .args .terms) 1 (s .args .used) refl refl,
     )
 
-leaf-requires : tie.Need-leaf-requires
-leaf-requires c κs = search needs
+one-more-requires : tie.Need-one-more-requires
+one-more-requires c κs = search needs
+
+store-requires : tie.Need-store-requires
+store-requires c κs = search needs
 
 same-length : tie.Need-same-length
 same-length c = search needs
 
 returns-5 : tie.Need-returns-5
+unfolding rowsOf rangeRows nameAt names
 returns-5 c =
-    let s = c .before .before .before .before .before .before .before .before .before .before .before .before .before .before .before .before .before .before .before .before .before in
-    let kept = leaf-stores _ _ _ (s .pre .0 .size) (s .pre .1) (c .before .before .leaf .ensures) in (
-      λ room p ms a once fits.
-          rw (kept .0, object-at a)
-          (leaf-did _ (words 0 14 _ _ 0 0)
-          (body-opens range-known _ (entriesOf ms) room (s .args .used) (s .pre .1) _ (c .before .before .before .before .before .before .before .before .before .before .before .before .before .before .before .unknown-name .ensures refl p ms a once) (c .before .before .before .before .before .before .before .before .before .before .before .before .before .enum-told .given .1)
-          ∙ range-fields _ (entriesOf ms) (leftOf room (more (s .args .used)))
-          ∙ done-bind _ (reads-done _ (c .before .before .before .before .before .before .before .before .before .before .before .before .decimal-field .ensures (s .pre .2) _ (once .slot 20 (omega arith)) _) (c .before .before .before .before .before .before .before .before .before .before .f .given .1))
-          ∙ done-bind _ (reads-done _ (c .before .before .before .before .before .before .before .before .decimal-field2 .ensures (s .pre .2) _ (once .slot 21 (omega arith)) _) (c .before .before .before .before .before .before .f2 .given .1))
-          ∙ guard-holds 12 _ (lt-ltb _ _ (c .before .before .before .before .if1 .left)))
-          refl (s .pre .1) fits (kept .1)),
-      kept-done (kept .0) (simp length-set at (ap length (kept .1))) (record { some = omega arith; few = omega (arith, s .pre .1) }),
+    let s = c .before .before .before .before .before .before .before .before .before .before .before .before .before .before .before .before .before .before .before .before .before .before in
+    let one = one-more (s .pre .1) (c .before .before .before .one-more .ensures) in
+    let still = still-same (sym one) in
+    let kept = stores _ _ (words _ 14 _ _ 0 0) (s .pre .0 .size) (s .pre .1) (c .before .before .store .ensures) in (
+      λ l tells p ms a once.
+          let b = body-opens range-known tells (s .pre .1) p (entriesOf ms) _ (c .before .before .before .before .before .before .before .before .before .before .before .before .before .before .before .before .unknown-name .ensures refl p ms a once) (c .before .before .before .before .before .before .before .before .before .before .before .before .before .before .enum-told .given .1) one (object-at a) in
+          let b1 = took-number b _ (c .before .before .before .before .before .before .before .before .before .before .before .before .before .decimal-field .ensures (s .pre .2) _ (once .slot 20 (omega arith))) (c .before .before .before .before .before .before .before .before .before .before .before .f .given .1) in
+          let b2 = took-number b1 _ (c .before .before .before .before .before .before .before .before .before .decimal-field2 .ensures (s .pre .2) _ (once .slot 21 (omega arith))) (c .before .before .before .before .before .before .before .f2 .given .1) in
+          rw (kept .0) (dosage-did (P.range _ _) (b2 .outcome ∙ guard-holds 12 _ (lt-ltb _ _ (c .before .before .before .before .before .if1 .left))) (b2 .tells) still (kept .1)),
+      kept-done (kept .0) (simp length-set at (ap length (kept .1))) (one-grown (s .pre .0) (s .pre .1) still),
     )
 
 pub range-spec : {M : Type 1} → statement M
@@ -159,6 +150,7 @@ range-spec =
     up-requires-2
     returns-3
     returns-4
-    leaf-requires
+    one-more-requires
+    store-requires
     same-length
     returns-5)

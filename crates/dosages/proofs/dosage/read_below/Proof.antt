@@ -1,12 +1,10 @@
--- `dosages::dosage::read_below` meets its contract: a dosage that must be there, behind one record more.
-use mathlib.Core.Path.{refl}
+-- `dosages::dosage::read_below` meets its contract: a dosage that must be there.
 use native.Mathlib.Omega.{arith}
+use mathlib.Core.Path.{refl}
 use Rattle.document.specs.Schema.{aDosage}
-use Rattle.dosages.specs.Visiting.{leftOf, DosageRows}
-use Rattle.records.specs.Records.{more}
+use Rattle.dosages.specs.Visiting.{DosageRows}
 use Rattle.dosages.proofs.Rowed.{visited-as, kept-refused}
 use Rattle.dosages.proofs.Bodies.{finds-child, finds-refused}
-use Rattle.records.proofs.Records.{one-more}
 use borrow.Author.Needs.{needs}
 use Rattle.dosages.proofs.dosage.read_below.Statement.{statement}
 use Rattle.dosages.proofs.dosage.read_below.Tie as tie
@@ -26,30 +24,25 @@ up-found-requires c κs = search needs
 returns : tie.Need-returns
 returns c =
     let s = c .before .before .before .before .before .before in
-    let up = c .up-found .ensures _ _ (c .before .enum-told .given .1) in (
-      λ room f slot fits. rw up (finds-refused _ _ (c .before .before .before .object-field .ensures .0 (s .pre .2) f slot) (c .before .enum-told .given .1) aDosage (leftOf room (more (s .args .used))), refl),
-      kept-refused 1 (more (s .args .used)) up refl,
+    let told = c .before .enum-told .given .1 in
+    let up = c .up-found .ensures _ _ told in (
+      λ l tells f slot. rw up (finds-refused _ _ (c .before .before .before .object-field .ensures .0 (s .pre .1) f slot) told aDosage l, refl),
+      kept-refused (s .args .terms) 1 (s .args .used) up refl,
     )
 
-one-more-requires : tie.Need-one-more-requires
-one-more-requires c κs = search needs
-
 read-dosage-requires : tie.Need-read-dosage-requires
-read-dosage-requires c κs =
-    let s = c .before .before .before .before .before .before .before .before in
-    rw (one-more (s .pre .1) (c .before .one-more .ensures)) (record { size = s .pre .0 .size; few = omega (arith, s .pre .1) }, omega (arith, c .before .before .before .before .before .object-field .ensures .1 _ (c .before .before .before .f .given .1)))
+read-dosage-requires c κs = let s = c .before .before .before .before .before .before .before in (s .pre .0, omega (arith, c .before .before .before .before .object-field .ensures .1 _ (c .before .before .f .given .1)))
 
 same-length : tie.Need-same-length
 same-length c = search needs
 
 returns-2 : tie.Need-returns-2
 returns-2 c =
-    let s = c .before .before .before .before .before .before .before .before .before .before .before in
-    let k = rw (one-more (s .pre .1) (c .before .before .before .before .one-more .ensures)) at (c .before .before .read-dosage .ensures) in (
-      λ room f slot fits.
-          let x = finds-child _ _ (c .before .before .before .before .before .before .before .before .object-field .ensures .0 (s .pre .2) f slot) (c .before .before .before .before .before .before .f .given .1) in
-          visited-as (s .args .text .now) room (more (s .args .used)) (s .args .words .now) DosageRows (c .before .before .read-dosage .result) (c .before .before .read-dosage .last .1 .1 .1 .0) (x .outcome aDosage (leftOf room (more (s .args .used)))) (k .0 room (x .place) (x .inner) (x .stands) fits),
-      k .1,
+    let s = c .before .before .before .before .before .before .before .before .before .before in (
+      λ l tells f slot.
+          let x = finds-child _ _ (c .before .before .before .before .before .before .before .object-field .ensures .0 (s .pre .1) f slot) (c .before .before .before .before .before .f .given .1) in
+          visited-as (s .args .terms) (s .args .text .now) (s .args .used) (s .args .words .now) DosageRows (c .before .before .read-dosage .result) (c .before .before .read-dosage .last .1 .1 .1 .1 .0) (x .outcome aDosage l) (c .before .before .read-dosage .ensures .0 l tells (x .place) (x .inner) (x .stands)),
+      c .before .before .read-dosage .ensures .1,
     )
 
 pub read-below-spec : {M : Type 1} → statement M
@@ -61,7 +54,6 @@ read-below-spec =
     enum-told
     up-found-requires
     returns
-    one-more-requires
     read-dosage-requires
     same-length
     returns-2)

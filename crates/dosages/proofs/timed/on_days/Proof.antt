@@ -1,19 +1,16 @@
--- `dosages::timed::on_days` meets its contract: its days, and its timed dosage below it.
-use mathlib.Core.Path.{refl, ap, _∙_}
+-- Its days, and its timed dosage below it.
+use mathlib.Core.Path.{refl, _∙_}
 use native.Mathlib.Omega.{arith}
 use lib.Dec.{eqb}
-use lib.ListN.{length, length-set}
 use Rattle.document.specs.Visit.{entriesOf}
-use Rattle.document.specs.Words.{words}
-use Rattle.dosages.specs.Visiting.{leftOf}
-use Rattle.records.specs.Records.{more}
-use Rattle.dosages.proofs.Rowed.{above-did, visited-done, visited-refused, kept-refused, kept-done}
-use Rattle.dosages.proofs.Bodies.{object-at, body-opens, body-unknown, refuses-as, refuses-bind, done-bind}
+use Rattle.document.proofs.Taken.{one-more, still-same}
+use Rattle.records.proofs.Records.{stores}
 use Rattle.dosages.proofs.Alike.{name-small, of-two}
-use Rattle.dosages.proofs.Known.{days-row, days-known, days-fields}
-use Rattle.dosages.proofs.Chunks.{counted, days-rows, timed-length}
-use Rattle.dosages.proofs.Under.{days-done, days-refused}
-use Rattle.records.proofs.Records.{above-stores, one-more}
+use Rattle.dosages.proofs.Bodies.{body-unknown}
+use Rattle.dosages.proofs.Below.{ready-more, kept-above}
+use Rattle.dosages.proofs.Known.{days-row, days-known}
+use Rattle.dosages.proofs.Rowed.{kept-refused, kept-still, ready-still}
+use Rattle.dosages.proofs.TimedBodies.{days-refused, below-days-refused, days-did}
 use borrow.Author.Needs.{needs}
 use Rattle.dosages.proofs.timed.on_days.Statement.{statement}
 use Rattle.dosages.proofs.timed.on_days.Tie as tie
@@ -32,22 +29,25 @@ enum-known-q c = search needs
 
 returns : tie.Need-returns
 returns c =
-    let s = c .before .before .before .before .before .before .before .before .before .before .before in
-    let week = eqb (s .args .o .kind) 4 in
-    let t = of-two 4 (s .args .o .kind) (s .pre .3) (s .pre .4) in (
-      λ ts room p ms a once fits.
-          (body-unknown (days-known ts week t (c .before .before .before .before .before .before .name-of .ensures)) p (entriesOf ms) room (s .args .used) (s .pre .1) _ (c .before .before .before .unknown-name .ensures (days-row week (c .before .before .before .before .before .before .name-of .ensures)) p ms a once) (c .before .q .given .1), refl),
-      kept-refused 1 (s .args .used) refl refl,
+    let s = c .before .before .before .before .before .before .before .before .before .before in
+    let week = eqb (s .args .kind) 4 in
+    let name = c .before .before .before .before .before .before .name-of .ensures in (
+      λ ts st tells p ms a once.
+          (body-unknown (days-known ts week (of-two 4 (s .args .kind) (s .pre .3) (s .pre .4)) name) tells (s .pre .1) p (entriesOf ms) _ (c .before .before .before .unknown-name .ensures (days-row week name) p ms a once) (c .before .q .given .1), refl),
+      kept-refused (s .args .terms) 1 (s .args .used) refl refl,
     )
 
 enum-told : tie.Need-enum-told
 enum-told c = search needs
 
 mul-days-of : tie.Need-mul-days-of
-mul-days-of c = omega (arith, name-small (eqb (c .before .before .before .before .before .before .before .before .before .before .args .o .kind) 4) (c .before .before .before .before .before .name-of .ensures) (omega arith) (omega arith))
+mul-days-of c = omega (arith, name-small (eqb (c .before .before .before .before .before .before .before .before .before .args .kind) 4) (c .before .before .before .before .before .name-of .ensures) (omega arith) (omega arith))
 
 array-read-days-of : tie.Need-array-read-days-of
-array-read-days-of c = name-small (eqb (c .before .before .before .before .before .before .before .before .before .before .args .o .kind) 4) (c .before .before .before .before .before .name-of .ensures) (omega arith) (omega arith)
+array-read-days-of c = name-small (eqb (c .before .before .before .before .before .before .before .before .before .args .kind) 4) (c .before .before .before .before .before .name-of .ensures) (omega arith) (omega arith)
+
+one-more-requires : tie.Need-one-more-requires
+one-more-requires c κs = search needs
 
 days-of-requires : tie.Need-days-of-requires
 days-of-requires c κs = search needs
@@ -58,37 +58,29 @@ enum-known-f c = search needs
 enum-told-2 : tie.Need-enum-told-2
 enum-told-2 c = search needs
 
-up-requires : tie.Need-up-requires
-up-requires c κs = search needs
+up-counted-requires : tie.Need-up-counted-requires
+up-counted-requires c κs = search needs
 
 returns-2 : tie.Need-returns-2
 returns-2 c =
     let s = c .before .before .before .before .before .before .before .before .before .before .before .before .before .before in
-    let week = eqb (s .args .o .kind) 4 in
-    let t = of-two 4 (s .args .o .kind) (s .pre .3) (s .pre .4) in
+    let week = eqb (s .args .kind) 4 in
+    let name = c .before .before .before .before .before .before .before .before .before .before .name-of .ensures in
+    let one = one-more (s .pre .1) (c .before .before .before .before .one-more .ensures) in
     let told = c .before .enum-told2 .given .1 in
-    let up = c .up .ensures _ _ told in (
-      λ ts room p ms a once fits.
-          rw (up, object-at a) (
-            refuses-as
-                (body-opens (days-known ts week t (c .before .before .before .before .before .before .before .before .before .name-of .ensures)) _ (entriesOf ms) room (s .args .used) (s .pre .1) _ (c .before .before .before .before .before .before .unknown-name .ensures (days-row week (c .before .before .before .before .before .before .before .before .before .name-of .ensures)) p ms a once) (c .before .before .before .before .enum-told .given .1)
-                ∙ days-fields _ (entriesOf ms) (leftOf room (more (s .args .used))) ts week t (c .before .before .before .before .before .before .before .before .before .name-of .ensures))
-                (refuses-bind _ (days-refused _ _ _ _ (c .before .before .before .days-of .ensures (s .pre .2)) told _ (once .slot _ (name-small week (c .before .before .before .before .before .before .before .before .before .name-of .ensures) (omega arith) (omega arith))) (leftOf room (more (s .args .used))))),
-            refl,
-          ),
-      kept-refused 1 (s .args .used) up refl,
+    let up = c .up-counted .ensures _ _ told in (
+      λ ts st tells p ms a once.
+          rw up (days-refused tells (s .pre .1) one a once ts _ (c .before .before .before .before .before .enum-told .given .1) week (of-two 4 (s .args .kind) (s .pre .3) (s .pre .4)) name (c .before .before .before .before .before .before .before .unknown-name .ensures (days-row week name) p ms a once) (c .before .before .before .days-of .result) (c .before .before .before .days-of .ensures .0 (s .pre .2)) told, refl),
+      kept-refused (s .args .terms) 1 (s .args .used) up refl,
     )
 
 array-read-read-under-days : tie.Need-array-read-read-under-days
 array-read-read-under-days c = search needs
 
-one-more-requires : tie.Need-one-more-requires
-one-more-requires c κs = search needs
-
 read-under-days-requires : tie.Need-read-under-days-requires
 read-under-days-requires c κs =
-    let s = c .before .before .before .before .before .before .before .before .before .before .before .before .before .before .before .before in
-    rw (one-more (s .pre .1) (c .before .one-more .ensures)) (record { size = s .pre .0 .size; few = omega (arith, s .pre .1) }, s .pre .2)
+    let s = c .before .before .before .before .before .before .before .before .before .before .before .before .before .before .before in
+    (ready-still (ready-more (s .args .used) (one-more (s .pre .1) (c .before .before .before .before .before .one-more .ensures)) (s .pre .0) (s .pre .1)) (c .before .before .before .before .days-of .ensures .1 _ _ (c .before .before .f .given .1)), s .pre .2)
 
 enum-known-r : tie.Need-enum-known-r
 enum-known-r c = search needs
@@ -101,54 +93,39 @@ same-length c = search needs
 
 returns-3 : tie.Need-returns-3
 returns-3 c =
-    let s = c .before .before .before .before .before .before .before .before .before .before .before .before .before .before .before .before .before .before .before .before .before in
-    let week = eqb (s .args .o .kind) 4 in
-    let t = of-two 4 (s .args .o .kind) (s .pre .3) (s .pre .4) in
-    let told = c .enum-told3 .given .1 in
-    let k = rw (one-more (s .pre .1) (c .before .before .before .before .before .before .one-more .ensures)) at (c .before .before .before .before .read-under-days .ensures) in (
-      λ ts room p ms a once fits.
-          let ds = (days-done _ _ _ _ (c .before .before .before .before .before .before .before .before .before .before .days-of .ensures (s .pre .2)) (c .before .before .before .before .before .before .before .before .f .given .1) _ (once .slot _ (name-small week (c .before .before .before .before .before .before .before .before .before .before .before .before .before .before .before .before .name-of .ensures) (omega arith) (omega arith))) (leftOf room (more (s .args .used)))) in
-          let w = visited-refused _ _ _ _ _ _ _ (k .0 room _ (once .slot 3 (omega arith)) fits) told in
-          rw (told, object-at a) (
-            refuses-as
-                (body-opens (days-known ts week t (c .before .before .before .before .before .before .before .before .before .before .before .before .before .before .before .before .name-of .ensures)) _ (entriesOf ms) room (s .args .used) (s .pre .1) _ (c .before .before .before .before .before .before .before .before .before .before .before .before .before .unknown-name .ensures (days-row week (c .before .before .before .before .before .before .before .before .before .before .before .before .before .before .before .before .name-of .ensures)) p ms a once) (c .before .before .before .before .before .before .before .before .before .before .before .enum-told .given .1)
-                ∙ days-fields _ (entriesOf ms) (leftOf room (more (s .args .used))) ts week t (c .before .before .before .before .before .before .before .before .before .before .before .before .before .before .before .before .name-of .ensures)
-                ∙ done-bind _ (ds .outcome))
-                (refuses-bind _ (w .0)),
-            w .1,
-          ),
-      kept-refused 1 (s .args .used) told (k .1 .size),
+    let s = c .before .before .before .before .before .before .before .before .before .before .before .before .before .before .before .before .before .before .before .before in
+    let week = eqb (s .args .kind) 4 in
+    let name = c .before .before .before .before .before .before .before .before .before .before .before .before .before .before .before .before .name-of .ensures in
+    let one = one-more (s .pre .1) (c .before .before .before .before .before .before .before .before .before .before .one-more .ensures) in
+    let below = c .before .before .before .before .read-under-days in
+    let told = c .enum-told3 .given .1 in (
+      λ ts st tells p ms a once.
+          rw told (below-days-refused tells (s .pre .1) one a once ts _ (c .before .before .before .before .before .before .before .before .before .before .before .enum-told .given .1) week (of-two 4 (s .args .kind) (s .pre .3) (s .pre .4)) name (c .before .before .before .before .before .before .before .before .before .before .before .before .before .unknown-name .ensures (days-row week name) p ms a once) (c .before .before .before .before .before .before .before .before .before .days-of .result) (c .before .before .before .before .before .before .before .before .before .days-of .ensures .0 (s .pre .2)) (c .before .before .before .before .before .before .before .f .given .1) (s .args .words .now) _ (below .result) (below .ensures .0) told),
+      kept-refused (s .args .terms) 1 (s .args .used) told (below .ensures .1 .size),
     )
 
-add-above : tie.Need-add-above
-add-above c = omega (arith, c .before .before .before .before .before .before .before .before .before .before .before .before .before .before .before .before .before .before .before .before .before .before .before .before .pre .4)
+add-store : tie.Need-add-store
+add-store c = omega (arith, c .before .before .before .before .before .before .before .before .before .before .before .before .before .before .before .before .before .before .before .before .before .before .pre .4)
 
-above-requires : tie.Need-above-requires
-above-requires c κs = search needs
+store-requires : tie.Need-store-requires
+store-requires c κs = search needs
 
 same-length-2 : tie.Need-same-length-2
 same-length-2 c = search needs
 
 returns-4 : tie.Need-returns-4
 returns-4 c =
-    let s = c .before .before .before .before .before .before .before .before .before .before .before .before .before .before .before .before .before .before .before .before .before .before .before .before .before .before .before in
-    let week = eqb (s .args .o .kind) 4 in
-    let t = of-two 4 (s .args .o .kind) (s .pre .3) (s .pre .4) in
-    let k = rw (one-more (s .pre .1) (c .before .before .before .before .before .before .before .before .before .before .before .before .one-more .ensures)) at (c .before .before .before .before .before .before .before .before .before .before .read-under-days .ensures) in
-    let kept = above-stores _ _ _ (k .1 .size ∙ s .pre .0 .size) (s .pre .1) (c .before .before .above .ensures) in
-    let grown = k .1 .grown _ (c .before .before .before .before .before .before .r .given .1) in (
-      λ ts room p ms a once fits.
-          let ds = (days-done _ _ _ _ (c .before .before .before .before .before .before .before .before .before .before .before .before .before .before .before .before .days-of .ensures (s .pre .2)) (c .before .before .before .before .before .before .before .before .before .before .before .before .before .before .f .given .1) _ (once .slot _ (name-small week (c .before .before .before .before .before .before .before .before .before .before .before .before .before .before .before .before .before .before .before .before .before .before .name-of .ensures) (omega arith) (omega arith))) (leftOf room (more (s .args .used)))) in
-          let d = visited-done _ _ _ _ _ _ _ (k .0 room _ (once .slot 3 (omega arith)) fits) (c .before .before .before .before .before .before .r .given .1) in
-          rw (kept .0, object-at a)
-          (above-did d _ (words _ _ _ 0 0 0)
-          (body-opens (days-known ts week t (c .before .before .before .before .before .before .before .before .before .before .before .before .before .before .before .before .before .before .before .before .before .before .name-of .ensures)) _ (entriesOf ms) room (s .args .used) (s .pre .1) _ (c .before .before .before .before .before .before .before .before .before .before .before .before .before .before .before .before .before .before .before .unknown-name .ensures (days-row week (c .before .before .before .before .before .before .before .before .before .before .before .before .before .before .before .before .before .before .before .before .before .before .name-of .ensures)) p ms a once) (c .before .before .before .before .before .before .before .before .before .before .before .before .before .before .before .before .before .enum-told .given .1)
-          ∙ days-fields _ (entriesOf ms) (leftOf room (more (s .args .used))) ts week t (c .before .before .before .before .before .before .before .before .before .before .before .before .before .before .before .before .before .before .before .before .before .before .name-of .ensures)
-          ∙ done-bind _ (ds .outcome)
-          ∙ done-bind _ (d .outcome))
-          (days-rows week (ds .value) (d .value) t (ds .bits) (counted (s .args .used) d _ (d .row) (timed-length (d .value))) (d .row))
-          (kept .1)),
-      kept-done (kept .0) ((simp length-set at (ap length (kept .1))) ∙ k .1 .size) (record { some = omega (arith, grown .some); few = grown .few }),
+    let s = c .before .before .before .before .before .before .before .before .before .before .before .before .before .before .before .before .before .before .before .before .before .before .before .before .before in
+    let week = eqb (s .args .kind) 4 in
+    let name = c .before .before .before .before .before .before .before .before .before .before .before .before .before .before .before .before .before .before .before .before .before .name-of .ensures in
+    let one = one-more (s .pre .1) (c .before .before .before .before .before .before .before .before .before .before .before .before .before .before .before .one-more .ensures) in
+    let below = c .before .before .before .before .before .before .before .before .before .read-under-days in
+    let still = c .before .before .before .before .before .before .before .before .before .before .before .before .before .before .days-of .ensures .1 _ _ (c .before .before .before .before .before .before .before .before .before .before .before .before .f .given .1) in
+    let is = c .before .before .before .before .before .r .given .1 in
+    let kept = stores _ _ _ (below .ensures .1 .size ∙ s .pre .0 .size) (s .pre .1) (c .before .before .store .ensures) in (
+      λ ts st tells p ms a once.
+          rw (kept .0) (days-did tells (s .pre .1) one a once ts _ (c .before .before .before .before .before .before .before .before .before .before .before .before .before .before .before .before .enum-told .given .1) week (of-two 4 (s .args .kind) (s .pre .3) (s .pre .4)) name (c .before .before .before .before .before .before .before .before .before .before .before .before .before .before .before .before .before .before .unknown-name .ensures (days-row week name) p ms a once) (c .before .before .before .before .before .before .before .before .before .before .before .before .before .before .days-of .result) (c .before .before .before .before .before .before .before .before .before .before .before .before .before .before .days-of .ensures .0 (s .pre .2)) (c .before .before .before .before .before .before .before .before .before .before .before .before .f .given .1) (s .args .words .now) _ (below .result) (below .ensures .0) still is (kept .1)),
+      kept-above (s .args .used) one _ (s .pre .0) (s .pre .1) (kept-still still (below .ensures .1)) is (still-same refl) (c .before .before .store .ensures),
     )
 
 pub on-days-spec : {M : Type 1} → statement M
@@ -163,19 +140,19 @@ on-days-spec =
     enum-told
     mul-days-of
     array-read-days-of
+    one-more-requires
     days-of-requires
     enum-known-f
     enum-told-2
-    up-requires
+    up-counted-requires
     returns-2
     array-read-read-under-days
-    one-more-requires
     read-under-days-requires
     enum-known-r
     enum-told-3
     same-length
     returns-3
-    add-above
-    above-requires
+    add-store
+    store-requires
     same-length-2
     returns-4)

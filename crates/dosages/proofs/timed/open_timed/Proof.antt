@@ -1,15 +1,8 @@
--- `dosages::timed::open_timed` meets its contract: a timed dosage as far as its type, 10 and 15.
-use mathlib.Core.Path.{refl, sym, _∙_}
+-- A timed dosage as far as its type, 10 and 15.
+use mathlib.Core.Path.{sym, _∙_}
 use native.Mathlib.Omega.{arith}
 use borrow.Author.Tests.{leb-true, leb-false, not-true, not-false}
-use mathlib.Core.List.{[], _∷_}
-use Rattle.document.specs.Bytes.{bytes}
-use Rattle.document.specs.Schema.{aTimed}
-use Rattle.document.specs.Visit.{entriesOf}
-use Rattle.records.specs.Under.{typesUnder}
-use Rattle.dosages.specs.Visiting.{leftOf}
-use Rattle.dosages.proofs.Bodies.{refuses-as, typed-as, body-full}
-use Rattle.dosages.proofs.Under.{under-refused, under-opened, stands-refused, stands-nowhere}
+use Rattle.dosages.proofs.Parents.{under-refused, type-refused, typed, under-there, stands-nowhere, stands-full}
 use borrow.Author.Needs.{needs}
 use Rattle.dosages.proofs.timed.open_timed.Statement.{statement}
 use Rattle.dosages.proofs.timed.open_timed.Tie as tie
@@ -17,12 +10,16 @@ use Rattle.dosages.proofs.timed.open_timed.Tie as tie
 open-typed-requires : tie.Need-open-typed-requires
 open-typed-requires c κs = search needs
 
+enum-known-answer : tie.Need-enum-known-answer
+enum-known-answer c = search needs
+
+enum-told : tie.Need-enum-told
+enum-told c = search needs
+
 returns : tie.Need-returns
 returns c =
-    let s = c .before .before .before in (
-      λ p ms a. under-refused (c .if1 .taken) (λ room. c .before .open-typed .ensures (omega arith) p ms a .refused (c .if1 .taken) (aTimed (typesUnder (s .args .parent))) refl (leftOf room (s .args .used))),
-      stands-refused _ _ (c .if1 .taken),
-    )
+    let s = c .before .before .before .before in
+    type-refused (s .args .parent) (c .before .before .open-typed .result) (c .before .before .open-typed .ensures .0 (omega arith)) (c .enum-told .given .1)
 
 is-allowed-requires : tie.Need-is-allowed-requires
 is-allowed-requires c κs = search needs
@@ -35,15 +32,10 @@ refused-requires c κs = search needs
 
 returns-2 : tie.Need-returns-2
 returns-2 c =
-    let s = c .before .before .before .before .before .before .before in
-    let told = c .refused .ensures in (
-      λ p ms a.
-          under-refused (told .0)
-          (λ room.
-          rw (told .1, told .2)
-          (stands-nowhere (s .args .parent) (leftOf room (s .args .used)) (c .before .before .before .before .before .open-typed .ensures (omega arith) p ms a) (c .before .before .before .before .if1 .left) (sym (c .before .before .is-allowed .ensures) ∙ not-true _ (c .before .if2 .taken)))),
-      stands-refused _ _ (told .0),
-    )
+    let s = c .before .before .before .before .before .before .before .before .before in
+    let o = c .before .before .before .before .before .before .before .open-typed in
+    under-refused (s .args .parent) (c .refused .result) (c .refused .ensures) λ p ms a terms st tells.
+    stands-nowhere (s .args .parent) (typed (s .args .parent) (o .result) (o .ensures .0 (omega arith)) (c .before .before .before .before .before .answer .given .1) p ms a) tells (sym (c .before .before .is-allowed .ensures) ∙ not-true _ (c .before .if1 .taken))
 
 is-full-requires : tie.Need-is-full-requires
 is-full-requires c κs = search needs
@@ -53,29 +45,24 @@ refused-requires-2 c κs = search needs
 
 returns-3 : tie.Need-returns-3
 returns-3 c =
-    let s = c .before .before .before .before .before .before .before .before .before in
-    let told = c .refused2 .ensures in
-    let stand = sym (c .before .before .before .before .is-allowed .ensures) ∙ not-false _ (c .before .before .before .if2 .left) in (
-      λ p ms a.
-          under-refused (told .0)
-          (λ room.
-          rw (told .1, told .2)
-          (refuses-as (typed-as (c .before .before .before .before .before .before .before .open-typed .ensures (omega arith) p ms a) (aTimed (typesUnder (s .args .parent))) _ _ (leftOf room (s .args .used)) refl (c .before .before .before .before .before .before .if1 .left) refl stand refl refl)
-          (body-full (aTimed (typesUnder (s .args .parent))) (c .before .before .before .before .before .before .before .open-typed .result .kind) (bytes "t" ∷ []) _ (entriesOf ms) room (s .args .used) refl (leb-true _ _ (sym (c .before .before .is-full .ensures) ∙ c .before .if3 .taken)) (s .args .at) refl (s .pre .1)))),
-      stands-refused _ _ (told .0),
-    )
+    let s = c .before .before .before .before .before .before .before .before .before .before .before in
+    let o = c .before .before .before .before .before .before .before .before .before .open-typed in
+    under-refused (s .args .parent) (c .refused2 .result) (c .refused2 .ensures) λ p ms a terms st tells.
+    stands-full (s .args .parent) (typed (s .args .parent) (o .result) (o .ensures .0 (omega arith)) (c .before .before .before .before .before .before .before .answer .given .1) p ms a) tells (sym (c .before .before .before .before .is-allowed .ensures) ∙ not-false _ (c .before .before .before .if1 .left)) (leb-true _ _ (sym (c .before .before .is-full .ensures) ∙ c .before .if2 .taken)) (s .pre .1)
 
 returns-4 : tie.Need-returns-4
 returns-4 c =
-    let stand = sym (c .before .before .before .is-allowed .ensures) ∙ not-false _ (c .before .before .if2 .left) in
-    let few = leb-false _ _ (sym (c .before .is-full .ensures) ∙ c .if3 .left) in
-    (λ p ms a. under-opened (c .before .before .before .before .before .before .open-typed .ensures (omega arith) p ms a) (c .before .before .before .before .before .if1 .left) stand few, record { kind = λ _. stand; few = λ _. few })
+    let s = c .before .before .before .before .before .before .before .before .before .before in
+    let o = c .before .before .before .before .before .before .before .before .open-typed in
+    under-there (s .args .parent) (o .result) (o .ensures .0 (omega arith)) (c .before .before .before .before .before .before .answer .given .1) (o .ensures .1) (sym (c .before .before .before .is-allowed .ensures) ∙ not-false _ (c .before .before .if1 .left)) (leb-false _ _ (sym (c .before .is-full .ensures) ∙ c .if2 .left))
 
 pub open-timed-spec : {M : Type 1} → statement M
 open-timed-spec =
     tie.close
     (tie.spec
     open-typed-requires
+    enum-known-answer
+    enum-told
     returns
     is-allowed-requires
     array-read-refused

@@ -1,11 +1,12 @@
--- `dosages::timed::plain_timed` meets its contract: types 1, 2 and 3.
+-- Types 1, 2 and 3.
+use Prim.Native.Nat.{ℕ}
 use mathlib.Core.Path.{ap}
 use mathlib.Core.List.{[], _∷_}
 use native.Mathlib.Omega.{arith}
 use Rattle.document.specs.Bytes.{bytes}
 use Rattle.document.specs.Schema.{aTimed}
 use Rattle.document.specs.Visit.{body, entriesOf}
-use Rattle.dosages.specs.Visiting.{leftOf, TimedRows}
+use Rattle.dosages.specs.Visiting.{TimedRows}
 use Rattle.dosages.proofs.Rowed.{visited-as}
 use borrow.Author.Needs.{needs}
 use Rattle.dosages.proofs.timed.plain_timed.Statement.{statement}
@@ -24,10 +25,13 @@ same-length c = search needs
 
 returns : tie.Need-returns
 returns c =
-    let s = c .before .before .before .before .before .before .before in (
-      λ ts room p ms a once fits.
-          visited-as (s .args .text .now) room (s .args .used) (s .args .words .now) TimedRows (c .before .before .dosage-only .result) (c .before .before .dosage-only .last .1 .1 .1 .1 .0) (ap (λ t. body (aTimed ts) t (bytes "t" ∷ []) p (entriesOf ms) (leftOf room (s .args .used))) (c .before .before .before .before .match .keys1)) (c .before .before .dosage-only .ensures .0 ts room p ms a once fits),
-      c .before .before .dosage-only .ensures .1,
+    let s = c .before .before .before .before .before .before .before in
+    let only = c .before .before .dosage-only in (
+      λ ts st tells p ms a once.
+          visited-as (s .args .terms) (s .args .text .now) (s .args .used) (s .args .words .now) TimedRows (only .result) (only .last .1 .1 .1 .1 .1 .0)
+          (ap (λ (t : ℕ). body (aTimed ts) t (bytes "t" ∷ []) p (entriesOf ms) st) (c .before .before .before .before .match .keys1))
+          (only .ensures .0 ts st tells p ms a once),
+      only .ensures .1,
     )
 
 same-length-2 : tie.Need-same-length-2

@@ -7,15 +7,16 @@ use native.Mathlib.Omega.{arith}
 use native.Mathlib.Nat.{mod-lt}
 use lib.ListN.{replicate}
 use Rattle.fields.proofs.DayLaws.{no-marks}
-use Rattle.fields.proofs.DayElements.{Days, days-start, days-end, days-refused, days-more}
+use Rattle.fields.proofs.Held.{none-counted}
+use Rattle.fields.proofs.DayElements.{Days, days-start, days-end, end-still, days-refused, days-more}
 use Rattle.fields.proofs.days.days_in.Statement.{statement}
 use Rattle.fields.proofs.days.days_in.Tie as tie
 
 abbrev Inv-loop : tie.InvT-loop
-Inv-loop text at most stood₀ again₀ e₀ left₀ stood again e left = Days text at most e left stood again
+Inv-loop text at most stood₀ again₀ used₀ e₀ left₀ stood again used e left = Days text at most e left stood again used₀ used
 
 abbrev μ-loop : tie.MeasureT-loop
-μ-loop text at most stood₀ again₀ e₀ left₀ stood again e left = left
+μ-loop text at most stood₀ again₀ used₀ e₀ left₀ stood again used e left = left
 
 first-in-requires : tie.Need-first-in-requires Inv-loop μ-loop
 first-in-requires c κs = search needs
@@ -24,7 +25,7 @@ loop-holds : tie.Need-loop-holds Inv-loop μ-loop
 loop-holds c =
     let args = c .before .before .args in
     let first-in = c .first-in in
-    days-start (args .text .now) (args .at) (args .most) (first-in .result) (replicate 29 false) refl (no-marks 29) (first-in .ensures)
+    days-start (args .text .now) (args .at) (args .most) (first-in .result) (replicate 29 false) (args .first) refl (no-marks 29) (first-in .ensures)
 
 at-end-requires : tie.Need-at-end-requires Inv-loop μ-loop
 at-end-requires c κs = search needs
@@ -39,7 +40,7 @@ returns c =
     let at-end = c .before .before .before .at-end in
     let if1 = c .before .before .if1 in
     let days-told = c .days-told in
-    days-end (args .text .now) (args .at) (args .most) (loop .e) (loop .left) (loop .stood) (loop .again) (loop .inv) (inl (sym (at-end .ensures) ∙ if1 .taken)) (days-told .result) (days-told .ensures)
+    (days-end (args .text .now) (args .at) (args .most) (loop .e) (loop .left) (loop .stood) (loop .again) (args .first) (loop .used) (loop .inv) (inl (sym (at-end .ensures) ∙ if1 .taken)) (days-told .result) (days-told .ensures), end-still (args .text .now) (args .at) (args .most) (loop .e) (loop .left) (loop .stood) (loop .again) (args .first) (loop .used) (loop .inv) (days-told .result) (days-told .ensures))
 
 integer-value-requires : tie.Need-integer-value-requires Inv-loop μ-loop
 integer-value-requires c κs = search needs
@@ -58,7 +59,7 @@ returns-2 c =
     let if1 = c .before .before .before .if1 in
     let integer-value = c .before .before .integer-value in
     let enum-told = c .enum-told in
-    days-refused (args .text .now) (args .at) (args .most) (loop .e) (loop .left) (loop .stood) (loop .again) (loop .inv) (at-end .result) (at-end .ensures) (if1 .left) (integer-value .result) _ _ (integer-value .ensures) (enum-told .given .1)
+    (days-refused (args .text .now) (args .at) (args .most) (loop .e) (loop .left) (loop .stood) (loop .again) (args .first) (loop .used) (loop .inv) (at-end .result) (at-end .ensures) (if1 .left) (integer-value .result) (integer-value .ensures .0) _ _ (enum-told .given .1), λ n v e. none-counted (sym (enum-told .given .1) ∙ e))
 
 array-read-either : tie.Need-array-read-either Inv-loop μ-loop
 array-read-either c = omega (arith, mod-lt (c .before .f .given .0 .0) {m = 29} (omega arith))
@@ -90,7 +91,7 @@ loop-again c =
     let f = c .before .before .before .f in
     let either = c .before .either in
     let next-after = c .next-after in
-    days-more (args .text .now) (args .at) (args .most) (loop .e) (loop .left) (loop .stood) (loop .again) (loop .inv) (at-end .result) (at-end .ensures) (if1 .left) (pre) (loop-test .taken) (integer-value .result) (f .given .0 .0) (next-after .result) (either .result) (integer-value .ensures) (f .given .1) (next-after .ensures) (either .ensures)
+    days-more (args .text .now) (args .at) (args .most) (loop .e) (loop .left) (loop .stood) (loop .again) (args .first) (loop .used) (loop .inv) (at-end .result) (at-end .ensures) (if1 .left) (integer-value .result) (integer-value .ensures .0) pre (loop-test .taken) (integer-value .ensures .1 .0) (integer-value .ensures .1 .1) (f .given .0 .0) (next-after .result) (f .given .0 .1 .0) (either .result) (f .given .1) (next-after .ensures) (either .ensures)
 
 days-told-requires-2 : tie.Need-days-told-requires-2 Inv-loop μ-loop
 days-told-requires-2 c κs = search needs
@@ -101,7 +102,7 @@ returns-3 c =
     let loop = c .before .before .before .loop in
     let loop-test = c .before .before .loop-test in
     let days-told2 = c .days-told2 in
-    days-end (args .text .now) (args .at) (args .most) (loop .e) (loop .left) (loop .stood) (loop .again) (loop .inv) (inr (omega (arith, loop-test .left))) (days-told2 .result) (days-told2 .ensures)
+    (days-end (args .text .now) (args .at) (args .most) (loop .e) (loop .left) (loop .stood) (loop .again) (args .first) (loop .used) (loop .inv) (inr (omega (arith, loop-test .left))) (days-told2 .result) (days-told2 .ensures), end-still (args .text .now) (args .at) (args .most) (loop .e) (loop .left) (loop .stood) (loop .again) (args .first) (loop .used) (loop .inv) (days-told2 .result) (days-told2 .ensures))
 
 pub days-in-spec : {M : Type 1} → statement M
 days-in-spec =

@@ -18,13 +18,13 @@ enum-told-2 : tie.Need-enum-told-2
 enum-told-2 c = search needs
 
 returns : tie.Need-returns
-returns c = ap (wholeAt (c .before .before .before .before .before .args .v)) (sym (c .before .n .given .1) ∙ c .before .before .before .integer-at .ensures)
+returns c = ap (wholeAt (c .before .before .before .before .before .args .v) (c .before .before .before .before .before .args .used)) (sym (c .before .n .given .1) ∙ c .before .before .before .integer-at .ensures)
 
 returns-2 : tie.Need-returns-2
-returns-2 c = ap (wholeAt (c .before .before .before .before .args .v)) (sym (c .enum-told .given .1) ∙ c .before .before .integer-at .ensures)
+returns-2 c = ap (wholeAt (c .before .before .before .before .args .v) (c .before .before .before .before .args .used)) (sym (c .enum-told .given .1) ∙ c .before .before .integer-at .ensures)
 
 returns-3 : tie.Need-returns-3
-returns-3 c = ap (wholeAt (c .before .before .before .before .args .v)) (sym (c .enum-told2 .given .1) ∙ c .before .before .integer-at .ensures)
+returns-3 c = ap (wholeAt (c .before .before .before .before .args .v) (c .before .before .before .before .args .used)) (sym (c .enum-told2 .given .1) ∙ c .before .before .integer-at .ensures)
 
 pub integer-read-spec : {M : Type 1} → statement M
 integer-read-spec =

@@ -1,7 +1,5 @@
 -- The answer to the text, with the place behind it.
-use lib.ListN.{length}
-use Rattle.document.specs.Answer.{readWalked}
-use Rattle.document.specs.Valid.{roomOf}
+use Rattle.document.specs.Answer.{termsOf, readWalked}
 use Rattle.posology.proofs.Runs.{next-taken, next-refused}
 use borrow.Author.Needs.{needs}
 use Rattle.posology.proofs.next.taken.Statement.{statement}
@@ -20,7 +18,7 @@ returns : tie.Need-returns
 returns c =
     let a = c .before .before .before .before .before .before .before .before .before .args in
     let q = c .before .before .before .before .walked-words .ensures in
-    let w = readWalked (a .purpose) (roomOf (length (a .strings .now))) (a .run .now) in
+    let w = readWalked (termsOf (a .purpose) (a .strings .now)) (a .run .now) in
     next-refused (a .e) (c .before .before .before .before .walked-words .result) _ (a .strings .now) w (c .refused .result) q (c .before .if1 .taken) (c .refused .ensures .0) (c .refused .ensures .1 _)
 
 same-length-2 : tie.Need-same-length-2
@@ -30,7 +28,7 @@ returns-2 : tie.Need-returns-2
 returns-2 c =
     let a = c .before .before .before .before .before .before .before .before .args in
     let q = c .before .before .before .walked-words .ensures in
-    let w = readWalked (a .purpose) (roomOf (length (a .strings .now))) (a .run .now) in
+    let w = readWalked (termsOf (a .purpose) (a .strings .now)) (a .run .now) in
     next-taken (a .e) (c .before .before .before .walked-words .result) _ (a .strings .now) w q (c .if1 .left)
 
 pub taken-spec : {M : Type 1} → statement M

@@ -1,4 +1,4 @@
--- `opening::rows::up` passes a refusal up.
+-- `records::rows::up` passes a refusal up.
 use borrow.Author.Needs.{needs}
 use Rattle.records.proofs.rows.up.Statement.{statement}
 use Rattle.records.proofs.rows.up.Tie as tie

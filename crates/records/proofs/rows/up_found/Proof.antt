@@ -1,4 +1,4 @@
--- `opening::rows::up_found` passes a refusal up.
+-- `records::rows::up_found` passes a refusal up.
 use borrow.Author.Needs.{needs}
 use Rattle.records.proofs.rows.up_found.Statement.{statement}
 use Rattle.records.proofs.rows.up_found.Tie as tie

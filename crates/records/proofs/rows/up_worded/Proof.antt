@@ -1,4 +1,4 @@
--- `opening::rows::up_worded` passes a refusal up.
+-- `records::rows::up_worded` passes a refusal up.
 use borrow.Author.Needs.{needs}
 use Rattle.records.proofs.rows.up_worded.Statement.{statement}
 use Rattle.records.proofs.rows.up_worded.Tie as tie

@@ -1,20 +1,18 @@
--- A cyclic: a record above its timed dosage.
-use mathlib.Core.Path.{refl, ap, _∙_}
+-- A cyclic: a record above its timed dosage, which its unit allows.
+use mathlib.Core.Path.{refl, _∙_}
 use native.Mathlib.Omega.{arith}
-use lib.ListN.{drop}
-use Rattle.document.specs.Posology as P
-use Rattle.document.specs.Schema.{need, may, gives, aDuration, aTimeUnit, anObject, aTimed, underCyclic, rowsOf, cyclicRows}
-use Rattle.document.specs.Visit.{entriesOf, done}
-use Rattle.names.specs.Names.{nameAt, names}
-use Rattle.dosages.specs.Visiting.{leftOf}
-use Rattle.visits.specs.Rows.{DetailAt}
-use Rattle.records.specs.Records.{more}
-use Rattle.dosages.proofs.Bodies.{object-at, body-unknown}
-use Rattle.visits.proofs.Detailed as D
-use Rattle.visits.proofs.Detailed.{begins, took, stopped, took-given, stopped-given, number-is, number-refused, refused-in, did-in, refused-kept, done-kept}
 use mathlib.Core.Option.{Option·getD}
-use Prim.Native.Nat.{ℕ}
-use Rattle.records.proofs.Records.{above-stores, one-more}
+use Rattle.document.specs.Visit.{entriesOf}
+use Rattle.document.specs.Schema.{rowsOf, cyclicRows}
+use Rattle.document.proofs.Taken.{one-more, still-then}
+use Rattle.names.specs.Names.{nameAt, names}
+use Rattle.records.proofs.Records.{stores}
+use Rattle.dosages.proofs.Bodies.{object-at, body-unknown, body-opens, took-integer, stopped-integer, took-given, given-hands, given-stopped}
+use Rattle.dosages.proofs.Rowed.{kept-refused, kept-done, refused-visited, done-visited, one-ready, grown-above}
+use Rattle.dosages.proofs.Below as B
+use Rattle.visits.proofs.Detailed as D
+use Rattle.dosages.specs.Visiting.{TimedRows}
+use Rattle.visits.specs.Rows.{DetailAt}
 use borrow.Author.Needs.{needs}
 use Rattle.visits.proofs.detail.cyclic.Statement.{statement}
 use Rattle.visits.proofs.detail.cyclic.Tie as tie
@@ -33,9 +31,9 @@ unfolding rowsOf cyclicRows nameAt names
 returns c =
     let s = c .before .before .before .before .before .before .before .before .before in
     let a = s .args in (
-      λ n room fits p ms stands once.
-          (body-unknown (D.cyclic-known n) p (entriesOf ms) room (a .used) (s .pre .1) (a .text .now) (c .before .before .before .unknown-name .ensures refl p ms stands once) (c .before .q .given .1), refl),
-      λ room fits. refused-kept refl refl,
+      λ n st tells p ms stands once.
+          (body-unknown (D.cyclic-known n) tells (s .pre .1) p (entriesOf ms) _ (c .before .before .before .unknown-name .ensures refl p ms stands once) (c .before .q .given .1), refl),
+      kept-refused (a .terms) 1 (a .used) refl refl,
     )
 
 enum-told : tie.Need-enum-told
@@ -43,6 +41,9 @@ enum-told c = search needs
 
 array-read-integer-field : tie.Need-array-read-integer-field
 array-read-integer-field c = search needs
+
+one-more-requires : tie.Need-one-more-requires
+one-more-requires c κs = search needs
 
 integer-field-requires : tie.Need-integer-field-requires
 integer-field-requires c κs = search needs
@@ -53,21 +54,20 @@ enum-known-f c = search needs
 enum-told-2 : tie.Need-enum-told-2
 enum-told-2 c = search needs
 
-up-requires : tie.Need-up-requires
-up-requires c κs = search needs
+up-counted-requires : tie.Need-up-counted-requires
+up-counted-requires c κs = search needs
 
 returns-2 : tie.Need-returns-2
 unfolding rowsOf cyclicRows nameAt names
 returns-2 c =
-    let s = c .before .before .before .before .before .before .before .before .before .before .before .before in
+    let s = c .before .before .before .before .before .before .before .before .before .before .before .before .before in
     let a = s .args in
-    let up = c .up .ensures _ _ (c .before .enum-told2 .given .1) in (
-      λ n room fits p ms stands once.
-          let l = leftOf room (more (a .used)) in
-          let begun = begins (D.cyclic-known n) p (entriesOf ms) room (a .used) (s .pre .1) (a .text .now) (c .before .before .before .before .before .before .unknown-name .ensures refl p ms stands once) (c .before .before .before .before .enum-told .given .1) (object-at stands) in
-          refused-in (a .text .now) room (a .used) (a .words .now) (DetailAt (a .text .now)) _ _ _ up
-          (stopped (drop (a .at) (a .text .now)) (entriesOf ms) l "cyDuU" aTimeUnit (λ unit. need "cyDu" aDuration λ du. need "tdo" (anObject (aTimed (underCyclic unit))) λ td. may "tdpc" aDuration λ per. gives (P.cyclic unit du td (Option·getD per 1))) begun (number-refused (a .text .now) (a .at) _ _ _ (c .before .before .before .integer-field .ensures (s .pre .2)) _ (once .slot 4 (omega arith)) l (c .before .enum-told2 .given .1))) refl,
-      λ room fits. refused-kept up refl,
+    let up = c .up-counted .ensures _ _ (c .before .enum-told2 .given .1) in
+    let counted = one-more (s .pre .1) (c .before .before .before .before .one-more .ensures) in (
+      λ n st tells p ms stands once.
+          let b = body-opens (D.cyclic-known n) tells (s .pre .1) p (entriesOf ms) _ (c .before .before .before .before .before .before .before .unknown-name .ensures refl p ms stands once) (c .before .before .before .before .before .enum-told .given .1) counted (object-at stands) in
+          refused-visited (a .terms) (a .text .now) (a .used) (a .words .now) (DetailAt (a .text .now)) _ _ up (stopped-integer b _ (c .before .before .before .integer-field .ensures .0 (s .pre .2) _ (once .slot 4 (omega arith))) (c .before .enum-told2 .given .1)) refl,
+      kept-refused (a .terms) 1 (a .used) up refl,
     )
 
 array-read-integer-field-2 : tie.Need-array-read-integer-field-2
@@ -82,33 +82,28 @@ enum-known-f-2 c = search needs
 enum-told-3 : tie.Need-enum-told-3
 enum-told-3 c = search needs
 
-up-requires-2 : tie.Need-up-requires-2
-up-requires-2 c κs = search needs
+up-counted-requires-2 : tie.Need-up-counted-requires-2
+up-counted-requires-2 c κs = search needs
 
 returns-3 : tie.Need-returns-3
 unfolding rowsOf cyclicRows nameAt names
 returns-3 c =
-    let s = c .before .before .before .before .before .before .before .before .before .before .before .before .before .before .before .before in
+    let s = c .before .before .before .before .before .before .before .before .before .before .before .before .before .before .before .before .before in
     let a = s .args in
-    let up = c .up2 .ensures _ _ (c .before .enum-told3 .given .1) in (
-      λ n room fits p ms stands once.
-          let l = leftOf room (more (a .used)) in
-          let begun = begins (D.cyclic-known n) p (entriesOf ms) room (a .used) (s .pre .1) (a .text .now) (c .before .before .before .before .before .before .before .before .before .before .unknown-name .ensures refl p ms stands once) (c .before .before .before .before .before .before .before .before .enum-told .given .1) (object-at stands) in
-          let unit = c .before .before .before .before .before .f .given .0 .0 in
-          let one = took (drop (a .at) (a .text .now)) (entriesOf ms) l "cyDuU" aTimeUnit (λ unit. need "cyDu" aDuration λ du. need "tdo" (anObject (aTimed (underCyclic unit))) λ td. may "tdpc" aDuration λ per. gives (P.cyclic unit du td (Option·getD per 1))) begun (number-is (a .text .now) (a .at) _ _ _ (c .before .before .before .before .before .before .before .integer-field .ensures (s .pre .2)) _ (once .slot 4 (omega arith)) l (c .before .before .before .before .before .f .given .1)) in
-          refused-in (a .text .now) room (a .used) (a .words .now) (DetailAt (a .text .now)) _ _ _ up
-          (stopped (drop (a .at) (a .text .now)) (entriesOf ms) l "cyDu" aDuration (λ du. need "tdo" (anObject (aTimed (underCyclic unit))) λ td. may "tdpc" aDuration λ per. gives (P.cyclic unit du td (Option·getD per 1))) one (number-refused (a .text .now) (a .at) _ _ _ (c .before .before .before .integer-field2 .ensures (s .pre .2)) _ (once .slot 5 (omega arith)) l (c .before .enum-told3 .given .1))) refl,
-      λ room fits. refused-kept up refl,
+    let up = c .up-counted2 .ensures _ _ (c .before .enum-told3 .given .1) in
+    let counted = one-more (s .pre .1) (c .before .before .before .before .before .before .before .before .one-more .ensures) in (
+      λ n st tells p ms stands once.
+          let b = body-opens (D.cyclic-known n) tells (s .pre .1) p (entriesOf ms) _ (c .before .before .before .before .before .before .before .before .before .before .before .unknown-name .ensures refl p ms stands once) (c .before .before .before .before .before .before .before .before .before .enum-told .given .1) counted (object-at stands) in
+          let unit = took-integer b _ (c .before .before .before .before .before .before .before .integer-field .ensures .0 (s .pre .2) _ (once .slot 4 (omega arith))) (c .before .before .before .before .before .f .given .1) in
+          refused-visited (a .terms) (a .text .now) (a .used) (a .words .now) (DetailAt (a .text .now)) _ _ up (stopped-integer unit _ (c .before .before .before .integer-field2 .ensures .0 (s .pre .2) _ (once .slot 5 (omega arith))) (c .before .enum-told3 .given .1)) refl,
+      kept-refused (a .terms) 1 (a .used) up refl,
     )
-
-array-read-read-timed : tie.Need-array-read-read-timed
-array-read-read-timed c = search needs
 
 under-cyclic-requires : tie.Need-under-cyclic-requires
 under-cyclic-requires c κs = search needs
 
-one-more-requires : tie.Need-one-more-requires
-one-more-requires c κs = search needs
+array-read-read-timed : tie.Need-array-read-read-timed
+array-read-read-timed c = search needs
 
 read-timed-requires : tie.Need-read-timed-requires
 read-timed-requires c κs = search needs
@@ -127,18 +122,19 @@ unfolding rowsOf cyclicRows nameAt names
 returns-4 c =
     let s = c .before .before .before .before .before .before .before .before .before .before .before .before .before .before .before .before .before .before .before .before .before .before .before .before in
     let a = s .args in
-    let answer = D.timed-answer (c .before .before .before .before .read-timed .ensures) (one-more (s .pre .1) (c .before .before .before .before .before .before .one-more .ensures)) (s .pre .0) (s .pre .1) (s .pre .2) (c .before .before .before .before .before .before .before .under-cyclic .ensures .1) in (
-      λ n room fits p ms stands once.
-          let l = leftOf room (more (a .used)) in
-          let begun = begins (D.cyclic-known n) p (entriesOf ms) room (a .used) (s .pre .1) (a .text .now) (c .before .before .before .before .before .before .before .before .before .before .before .before .before .before .before .before .before .before .unknown-name .ensures refl p ms stands once) (c .before .before .before .before .before .before .before .before .before .before .before .before .before .before .before .before .enum-told .given .1) (object-at stands) in
-          let unit = c .before .before .before .before .before .before .before .before .before .before .before .before .before .f .given .0 .0 in
-          let one = took (drop (a .at) (a .text .now)) (entriesOf ms) l "cyDuU" aTimeUnit (λ unit. need "cyDu" aDuration λ du. need "tdo" (anObject (aTimed (underCyclic unit))) λ td. may "tdpc" aDuration λ per. gives (P.cyclic unit du td (Option·getD per 1))) begun (number-is (a .text .now) (a .at) _ _ _ (c .before .before .before .before .before .before .before .before .before .before .before .before .before .before .before .integer-field .ensures (s .pre .2)) _ (once .slot 4 (omega arith)) l (c .before .before .before .before .before .before .before .before .before .before .before .before .before .f .given .1)) in
-          let du = c .before .before .before .before .before .before .before .before .before .f2 .given .0 .0 in
-          let two = took (drop (a .at) (a .text .now)) (entriesOf ms) l "cyDu" aDuration (λ du. need "tdo" (anObject (aTimed (underCyclic unit))) λ td. may "tdpc" aDuration λ per. gives (P.cyclic unit du td (Option·getD per 1))) one (number-is (a .text .now) (a .at) _ _ _ (c .before .before .before .before .before .before .before .before .before .before .before .integer-field2 .ensures (s .pre .2)) _ (once .slot 5 (omega arith)) l (c .before .before .before .before .before .before .before .before .before .f2 .given .1)) in
-          let timed = D.timed-refused (underCyclic unit) (a .text .now) (a .at) _ (a .used) (a .words .now) (c .before .before .before .before .read-timed .result) (c .before .before .before .before .read-timed .last .1 .1 .1 .1 .1 .0) (one-more (s .pre .1) (c .before .before .before .before .before .before .one-more .ensures)) (D.timed-under (a .text .now) (a .at) _ (c .before .before .before .before .before .before .one-more .result) (a .words .now) (c .before .before .before .before .read-timed .result) (c .before .before .before .before .read-timed .last .1 .1 .1 .1 .1 .0) (c .before .before .before .before .before .before .before .under-cyclic .ensures .0) (answer .0)) (once .slot 3 (omega arith)) room fits (c .enum-told4 .given .1) in
-          refused-in (a .text .now) room (a .used) (a .words .now) (DetailAt (a .text .now)) _ _ _ (c .enum-told4 .given .1)
-          (stopped (drop (a .at) (a .text .now)) (entriesOf ms) l "tdo" (anObject (aTimed (underCyclic unit))) (λ td. may "tdpc" aDuration λ per. gives (P.cyclic unit du td (Option·getD per 1))) two (timed .0)) (timed .1),
-      λ room fits. refused-kept (c .enum-told4 .given .1) (answer .1 .size),
+    let timed = c .before .before .before .before .read-timed in
+    let under = c .before .before .before .before .before .before .under-cyclic .ensures in
+    let counted = one-more (s .pre .1) (c .before .before .before .before .before .before .before .before .before .before .before .before .before .before .before .one-more .ensures) in
+    let one = D.counted-still (a .used) counted (still-then (c .before .before .before .before .before .before .before .before .before .before .before .before .before .before .integer-field .ensures .1 .0 _ _ (c .before .before .before .before .before .before .before .before .before .before .before .before .f .given .1)) (c .before .before .before .before .before .before .before .before .before .before .integer-field2 .ensures .1 .0 _ _ (c .before .before .before .before .before .before .before .before .f2 .given .1))) in
+    let ready = one-ready (s .pre .0) (s .pre .1) one in
+    let kept = timed .ensures .kept (ready, s .pre .2, under .1) in (
+      λ n st tells p ms stands once.
+          let b = body-opens (D.cyclic-known n) tells (s .pre .1) p (entriesOf ms) _ (c .before .before .before .before .before .before .before .before .before .before .before .before .before .before .before .before .before .before .unknown-name .ensures refl p ms stands once) (c .before .before .before .before .before .before .before .before .before .before .before .before .before .before .before .before .enum-told .given .1) counted (object-at stands) in
+          let unit = took-integer b _ (c .before .before .before .before .before .before .before .before .before .before .before .before .before .before .integer-field .ensures .0 (s .pre .2) _ (once .slot 4 (omega arith))) (c .before .before .before .before .before .before .before .before .before .before .before .before .f .given .1) in
+          let du = took-integer unit _ (c .before .before .before .before .before .before .before .before .before .before .integer-field2 .ensures .0 (s .pre .2) _ (once .slot 5 (omega arith))) (c .before .before .before .before .before .before .before .before .f2 .given .1) in
+          let reads = D.timed-under (a .terms) (a .text .now) (a .at) _ _ (a .words .now) (timed .result) (timed .last .1 .1 .1 .1 .1 .1 .0) (under .0) (timed .ensures .reads (ready, s .pre .2, under .1)) in
+          refused-visited (a .terms) (a .text .now) (a .used) (a .words .now) (DetailAt (a .text .now)) _ _ (c .enum-told4 .given .1) (B.object-stopped (a .at) du TimedRows _ (a .words .now) (timed .last .1 .1 .1 .1 .1 .1 .0) (timed .result) reads (once .slot 3 (omega arith)) (c .enum-told4 .given .1) .0) (kept .size),
+      kept-refused (a .terms) 1 (a .used) (c .enum-told4 .given .1) (kept .size),
     )
 
 array-read-optional-integer : tie.Need-array-read-optional-integer
@@ -153,8 +149,8 @@ enum-known-f-3 c = search needs
 enum-told-5 : tie.Need-enum-told-5
 enum-told-5 c = search needs
 
-up-requires-3 : tie.Need-up-requires-3
-up-requires-3 c κs = search needs
+up-counted-requires-3 : tie.Need-up-counted-requires-3
+up-counted-requires-3 c κs = search needs
 
 same-length-2 : tie.Need-same-length-2
 same-length-2 c = search needs
@@ -164,25 +160,26 @@ unfolding rowsOf cyclicRows nameAt names
 returns-5 c =
     let s = c .before .before .before .before .before .before .before .before .before .before .before .before .before .before .before .before .before .before .before .before .before .before .before .before .before .before .before .before .before in
     let a = s .args in
-    let answer = D.timed-answer (c .before .before .before .before .before .before .before .before .before .read-timed .ensures) (one-more (s .pre .1) (c .before .before .before .before .before .before .before .before .before .before .before .one-more .ensures)) (s .pre .0) (s .pre .1) (s .pre .2) (c .before .before .before .before .before .before .before .before .before .before .before .before .under-cyclic .ensures .1) in
-    let up = c .up3 .ensures _ _ (c .before .enum-told5 .given .1) in (
-      λ n room fits p ms stands once.
-          let l = leftOf room (more (a .used)) in
-          let begun = begins (D.cyclic-known n) p (entriesOf ms) room (a .used) (s .pre .1) (a .text .now) (c .before .before .before .before .before .before .before .before .before .before .before .before .before .before .before .before .before .before .before .before .before .before .before .unknown-name .ensures refl p ms stands once) (c .before .before .before .before .before .before .before .before .before .before .before .before .before .before .before .before .before .before .before .before .before .enum-told .given .1) (object-at stands) in
-          let unit = c .before .before .before .before .before .before .before .before .before .before .before .before .before .before .before .before .before .before .f .given .0 .0 in
-          let one = took (drop (a .at) (a .text .now)) (entriesOf ms) l "cyDuU" aTimeUnit (λ unit. need "cyDu" aDuration λ du. need "tdo" (anObject (aTimed (underCyclic unit))) λ td. may "tdpc" aDuration λ per. gives (P.cyclic unit du td (Option·getD per 1))) begun (number-is (a .text .now) (a .at) _ _ _ (c .before .before .before .before .before .before .before .before .before .before .before .before .before .before .before .before .before .before .before .before .integer-field .ensures (s .pre .2)) _ (once .slot 4 (omega arith)) l (c .before .before .before .before .before .before .before .before .before .before .before .before .before .before .before .before .before .before .f .given .1)) in
-          let du = c .before .before .before .before .before .before .before .before .before .before .before .before .before .before .f2 .given .0 .0 in
-          let two = took (drop (a .at) (a .text .now)) (entriesOf ms) l "cyDu" aDuration (λ du. need "tdo" (anObject (aTimed (underCyclic unit))) λ td. may "tdpc" aDuration λ per. gives (P.cyclic unit du td (Option·getD per 1))) one (number-is (a .text .now) (a .at) _ _ _ (c .before .before .before .before .before .before .before .before .before .before .before .before .before .before .before .before .integer-field2 .ensures (s .pre .2)) _ (once .slot 5 (omega arith)) l (c .before .before .before .before .before .before .before .before .before .before .before .before .before .before .f2 .given .1)) in
-          let timed = D.timed-did (underCyclic unit) (a .text .now) (a .at) _ (a .used) (a .words .now) (c .before .before .before .before .before .before .before .before .before .read-timed .result) (c .before .before .before .before .before .before .before .before .before .read-timed .last .1 .1 .1 .1 .1 .0) (one-more (s .pre .1) (c .before .before .before .before .before .before .before .before .before .before .before .one-more .ensures)) (D.timed-under (a .text .now) (a .at) _ (c .before .before .before .before .before .before .before .before .before .before .before .one-more .result) (a .words .now) (c .before .before .before .before .before .before .before .before .before .read-timed .result) (c .before .before .before .before .before .before .before .before .before .read-timed .last .1 .1 .1 .1 .1 .0) (c .before .before .before .before .before .before .before .before .before .before .before .before .under-cyclic .ensures .0) (answer .0)) (once .slot 3 (omega arith)) room fits (c .before .before .before .before .before .r .given .1) in
-          let three = took (drop (a .at) (a .text .now)) (entriesOf ms) l "tdo" (anObject (aTimed (underCyclic unit))) (λ td. may "tdpc" aDuration λ per. gives (P.cyclic unit du td (Option·getD per 1))) two (timed .outcome) in
-          let m = leftOf room (record { records = c .before .before .before .before .before .r .given .0 .0 .records; text = a .used .text }) in
-          refused-in (a .text .now) room (a .used) (a .words .now) (DetailAt (a .text .now)) _ _ _ up
-          (stopped-given (drop (a .at) (a .text .now)) (entriesOf ms) m "tdpc" aDuration (λ per. gives (P.cyclic unit du (timed .value) (Option·getD per 1))) three (D.given-refused (a .text .now) _ _ _ _ (c .before .before .before .optional-integer .ensures) (once .slot 6 (omega arith)) (drop (a .at) (a .text .now)) m (c .before .enum-told5 .given .1))) (answer .1 .size),
-      λ room fits. refused-kept up (answer .1 .size),
+    let up = c .up-counted3 .ensures _ _ (c .before .enum-told5 .given .1) in
+    let timed = c .before .before .before .before .before .before .before .before .before .read-timed in
+    let under = c .before .before .before .before .before .before .before .before .before .before .before .under-cyclic .ensures in
+    let counted = one-more (s .pre .1) (c .before .before .before .before .before .before .before .before .before .before .before .before .before .before .before .before .before .before .before .before .one-more .ensures) in
+    let one = D.counted-still (a .used) counted (still-then (c .before .before .before .before .before .before .before .before .before .before .before .before .before .before .before .before .before .before .before .integer-field .ensures .1 .0 _ _ (c .before .before .before .before .before .before .before .before .before .before .before .before .before .before .before .before .before .f .given .1)) (c .before .before .before .before .before .before .before .before .before .before .before .before .before .before .before .integer-field2 .ensures .1 .0 _ _ (c .before .before .before .before .before .before .before .before .before .before .before .before .before .f2 .given .1))) in
+    let ready = one-ready (s .pre .0) (s .pre .1) one in
+    let kept = timed .ensures .kept (ready, s .pre .2, under .1) in (
+      λ n st tells p ms stands once.
+          let b = body-opens (D.cyclic-known n) tells (s .pre .1) p (entriesOf ms) _ (c .before .before .before .before .before .before .before .before .before .before .before .before .before .before .before .before .before .before .before .before .before .before .before .unknown-name .ensures refl p ms stands once) (c .before .before .before .before .before .before .before .before .before .before .before .before .before .before .before .before .before .before .before .before .before .enum-told .given .1) counted (object-at stands) in
+          let unit = took-integer b _ (c .before .before .before .before .before .before .before .before .before .before .before .before .before .before .before .before .before .before .before .integer-field .ensures .0 (s .pre .2) _ (once .slot 4 (omega arith))) (c .before .before .before .before .before .before .before .before .before .before .before .before .before .before .before .before .before .f .given .1) in
+          let du = took-integer unit _ (c .before .before .before .before .before .before .before .before .before .before .before .before .before .before .before .integer-field2 .ensures .0 (s .pre .2) _ (once .slot 5 (omega arith))) (c .before .before .before .before .before .before .before .before .before .before .before .before .before .f2 .given .1) in
+          let reads = D.timed-under (a .terms) (a .text .now) (a .at) _ _ (a .words .now) (timed .result) (timed .last .1 .1 .1 .1 .1 .1 .0) (under .0) (timed .ensures .reads (ready, s .pre .2, under .1)) in
+          let d = B.object-did (a .at) du TimedRows _ (a .words .now) (timed .last .1 .1 .1 .1 .1 .1 .0) (timed .result) reads (once .slot 3 (omega arith)) (c .before .before .before .before .before .r .given .1) in
+          let td = B.took-below du d in
+          refused-visited (a .terms) (a .text .now) (a .used) (a .words .now) (DetailAt (a .text .now)) _ _ up (given-stopped td (λ x. Option·getD x 1) _ (c .before .before .before .optional-integer .ensures .0 _ (once .slot 6 (omega arith)) _) (c .before .enum-told5 .given .1)) (kept .size),
+      kept-refused (a .terms) 1 (a .used) up (kept .size),
     )
 
-above-requires : tie.Need-above-requires
-above-requires c κs = search needs
+store-requires : tie.Need-store-requires
+store-requires c κs = search needs
 
 same-length-3 : tie.Need-same-length-3
 same-length-3 c = search needs
@@ -192,25 +189,24 @@ unfolding rowsOf cyclicRows nameAt names
 returns-6 c =
     let s = c .before .before .before .before .before .before .before .before .before .before .before .before .before .before .before .before .before .before .before .before .before .before .before .before .before .before .before .before .before .before .before .before .before in
     let a = s .args in
-    let answer = D.timed-answer (c .before .before .before .before .before .before .before .before .before .before .before .before .before .read-timed .ensures) (one-more (s .pre .1) (c .before .before .before .before .before .before .before .before .before .before .before .before .before .before .before .one-more .ensures)) (s .pre .0) (s .pre .1) (s .pre .2) (c .before .before .before .before .before .before .before .before .before .before .before .before .before .before .before .before .under-cyclic .ensures .1) in
-    let above = above-stores _ _ _ (answer .1 .size ∙ s .pre .0 .size) (s .pre .1) (c .before .before .above .ensures) in (
-      λ n room fits p ms stands once.
-          let l = leftOf room (more (a .used)) in
-          let begun = begins (D.cyclic-known n) p (entriesOf ms) room (a .used) (s .pre .1) (a .text .now) (c .before .before .before .before .before .before .before .before .before .before .before .before .before .before .before .before .before .before .before .before .before .before .before .before .before .before .before .unknown-name .ensures refl p ms stands once) (c .before .before .before .before .before .before .before .before .before .before .before .before .before .before .before .before .before .before .before .before .before .before .before .before .before .enum-told .given .1) (object-at stands) in
-          let unit = c .before .before .before .before .before .before .before .before .before .before .before .before .before .before .before .before .before .before .before .before .before .before .f .given .0 .0 in
-          let one = took (drop (a .at) (a .text .now)) (entriesOf ms) l "cyDuU" aTimeUnit (λ unit. need "cyDu" aDuration λ du. need "tdo" (anObject (aTimed (underCyclic unit))) λ td. may "tdpc" aDuration λ per. gives (P.cyclic unit du td (Option·getD per 1))) begun (number-is (a .text .now) (a .at) _ _ _ (c .before .before .before .before .before .before .before .before .before .before .before .before .before .before .before .before .before .before .before .before .before .before .before .before .integer-field .ensures (s .pre .2)) _ (once .slot 4 (omega arith)) l (c .before .before .before .before .before .before .before .before .before .before .before .before .before .before .before .before .before .before .before .before .before .before .f .given .1)) in
-          let du = c .before .before .before .before .before .before .before .before .before .before .before .before .before .before .before .before .before .before .f2 .given .0 .0 in
-          let two = took (drop (a .at) (a .text .now)) (entriesOf ms) l "cyDu" aDuration (λ du. need "tdo" (anObject (aTimed (underCyclic unit))) λ td. may "tdpc" aDuration λ per. gives (P.cyclic unit du td (Option·getD per 1))) one (number-is (a .text .now) (a .at) _ _ _ (c .before .before .before .before .before .before .before .before .before .before .before .before .before .before .before .before .before .before .before .before .integer-field2 .ensures (s .pre .2)) _ (once .slot 5 (omega arith)) l (c .before .before .before .before .before .before .before .before .before .before .before .before .before .before .before .before .before .before .f2 .given .1)) in
-          let timed = D.timed-did (underCyclic unit) (a .text .now) (a .at) _ (a .used) (a .words .now) (c .before .before .before .before .before .before .before .before .before .before .before .before .before .read-timed .result) (c .before .before .before .before .before .before .before .before .before .before .before .before .before .read-timed .last .1 .1 .1 .1 .1 .0) (one-more (s .pre .1) (c .before .before .before .before .before .before .before .before .before .before .before .before .before .before .before .one-more .ensures)) (D.timed-under (a .text .now) (a .at) _ (c .before .before .before .before .before .before .before .before .before .before .before .before .before .before .before .one-more .result) (a .words .now) (c .before .before .before .before .before .before .before .before .before .before .before .before .before .read-timed .result) (c .before .before .before .before .before .before .before .before .before .before .before .before .before .read-timed .last .1 .1 .1 .1 .1 .0) (c .before .before .before .before .before .before .before .before .before .before .before .before .before .before .before .before .under-cyclic .ensures .0) (answer .0)) (once .slot 3 (omega arith)) room fits (c .before .before .before .before .before .before .before .before .before .r .given .1) in
-          let three = took (drop (a .at) (a .text .now)) (entriesOf ms) l "tdo" (anObject (aTimed (underCyclic unit))) (λ td. may "tdpc" aDuration λ per. gives (P.cyclic unit du td (Option·getD per 1))) two (timed .outcome) in
-          let m = leftOf room (record { records = c .before .before .before .before .before .before .before .before .before .r .given .0 .0 .records; text = a .used .text }) in
-          let per = D.given-is (a .text .now) _ _ _ _ (c .before .before .before .before .before .before .before .optional-integer .ensures) (once .slot 6 (omega arith)) (drop (a .at) (a .text .now)) m (c .before .before .before .before .before .f3 .given .1) in
-          did-in (a .text .now) room (a .used) (a .words .now) (DetailAt (a .text .now)) _ _ _ (above .0)
-          (D.cyclic-did (a .text .now) timed refl unit du (c .before .before .before .before .before .f3 .given .0 .0)
-          (took-given (drop (a .at) (a .text .now)) (entriesOf ms) m "tdpc" aDuration (λ per. gives (P.cyclic unit du (timed .value) (Option·getD per 1))) three (per .outcome) ∙ ap (λ (k : ℕ). done (P.cyclic unit du (timed .value) k) m) (per .counts)) (above .1)),
-      λ room fits.
-          let grown = answer .1 .grown _ (c .before .before .before .before .before .before .before .before .before .r .given .1) in
-          done-kept (above .0) (c .before .before .above .kept .0 ∙ answer .1 .size) (D.grown-as refl (D.grown-more (one-more (s .pre .1) (c .before .before .before .before .before .before .before .before .before .before .before .before .before .before .before .one-more .ensures)) grown)) fits,
+    let timed = c .before .before .before .before .before .before .before .before .before .before .before .before .before .read-timed in
+    let under = c .before .before .before .before .before .before .before .before .before .before .before .before .before .before .before .under-cyclic .ensures in
+    let counted = one-more (s .pre .1) (c .before .before .before .before .before .before .before .before .before .before .before .before .before .before .before .before .before .before .before .before .before .before .before .before .one-more .ensures) in
+    let one = D.counted-still (a .used) counted (still-then (c .before .before .before .before .before .before .before .before .before .before .before .before .before .before .before .before .before .before .before .before .before .before .before .integer-field .ensures .1 .0 _ _ (c .before .before .before .before .before .before .before .before .before .before .before .before .before .before .before .before .before .before .before .before .before .f .given .1)) (c .before .before .before .before .before .before .before .before .before .before .before .before .before .before .before .before .before .before .before .integer-field2 .ensures .1 .0 _ _ (c .before .before .before .before .before .before .before .before .before .before .before .before .before .before .before .before .before .f2 .given .1))) in
+    let ready = one-ready (s .pre .0) (s .pre .1) one in
+    let kept = timed .ensures .kept (ready, s .pre .2, under .1) in
+    let same = c .before .before .before .before .before .before .before .optional-integer .ensures .1 _ _ (c .before .before .before .before .before .f3 .given .1) in
+    let put = stores _ _ _ (kept .size ∙ s .pre .0 .size) (s .pre .1) (c .before .before .store .ensures) in (
+      λ n st tells p ms stands once.
+          let b = body-opens (D.cyclic-known n) tells (s .pre .1) p (entriesOf ms) _ (c .before .before .before .before .before .before .before .before .before .before .before .before .before .before .before .before .before .before .before .before .before .before .before .before .before .before .before .unknown-name .ensures refl p ms stands once) (c .before .before .before .before .before .before .before .before .before .before .before .before .before .before .before .before .before .before .before .before .before .before .before .before .before .enum-told .given .1) counted (object-at stands) in
+          let unit = took-integer b _ (c .before .before .before .before .before .before .before .before .before .before .before .before .before .before .before .before .before .before .before .before .before .before .before .integer-field .ensures .0 (s .pre .2) _ (once .slot 4 (omega arith))) (c .before .before .before .before .before .before .before .before .before .before .before .before .before .before .before .before .before .before .before .before .before .f .given .1) in
+          let du = took-integer unit _ (c .before .before .before .before .before .before .before .before .before .before .before .before .before .before .before .before .before .before .before .integer-field2 .ensures .0 (s .pre .2) _ (once .slot 5 (omega arith))) (c .before .before .before .before .before .before .before .before .before .before .before .before .before .before .before .before .before .f2 .given .1) in
+          let reads = D.timed-under (a .terms) (a .text .now) (a .at) _ _ (a .words .now) (timed .result) (timed .last .1 .1 .1 .1 .1 .1 .0) (under .0) (timed .ensures .reads (ready, s .pre .2, under .1)) in
+          let d = B.object-did (a .at) du TimedRows _ (a .words .now) (timed .last .1 .1 .1 .1 .1 .1 .0) (timed .result) reads (once .slot 3 (omega arith)) (c .before .before .before .before .before .before .before .before .before .r .given .1) in
+          let td = B.took-below du d in
+          let h = given-hands td (λ x. Option·getD x 1) _ (c .before .before .before .before .before .before .before .optional-integer .ensures .0 _ (once .slot 6 (omega arith)) _) (c .before .before .before .before .before .f3 .given .1) in
+          done-visited (a .terms) (a .text .now) (a .used) (a .words .now) (DetailAt (a .text .now)) _ _ (put .0) (D.cyclic-did (a .text .now) (a .used) d one same _ _ _ (h .holds) (took-given td h) (put .1)),
+      kept-done (put .0) (c .before .before .store .kept .0 ∙ kept .size) (grown-above one (kept .grown _ (c .before .before .before .before .before .before .before .before .before .r .given .1)) same),
     )
 
 pub cyclic-spec : {M : Type 1} → statement M
@@ -223,20 +219,20 @@ cyclic-spec =
     returns
     enum-told
     array-read-integer-field
+    one-more-requires
     integer-field-requires
     enum-known-f
     enum-told-2
-    up-requires
+    up-counted-requires
     returns-2
     array-read-integer-field-2
     integer-field-requires-2
     enum-known-f-2
     enum-told-3
-    up-requires-2
+    up-counted-requires-2
     returns-3
-    array-read-read-timed
     under-cyclic-requires
-    one-more-requires
+    array-read-read-timed
     read-timed-requires
     enum-known-r
     enum-told-4
@@ -246,9 +242,9 @@ cyclic-spec =
     optional-integer-requires
     enum-known-f-3
     enum-told-5
-    up-requires-3
+    up-counted-requires-3
     same-length-2
     returns-5
-    above-requires
+    store-requires
     same-length-3
     returns-6)

@@ -1,17 +1,15 @@
 -- A daily: its list of four decimals.
-use mathlib.Core.Path.{refl, ap, sym, _∙_}
+use mathlib.Core.Path.{refl, sym}
 use native.Mathlib.Omega.{arith}
-use lib.ListN.{drop}
-use Rattle.document.specs.Posology as P
-use Rattle.document.specs.Schema.{gives, aList, fourDecimals, rowsOf, dailyRows}
-use Rattle.document.specs.Visit.{entriesOf, valuesOf, decimals, bind, done}
+use Rattle.document.specs.Visit.{entriesOf}
+use Rattle.document.specs.Schema.{rowsOf, dailyRows}
+use Rattle.document.proofs.Taken.{one-more, still-same}
 use Rattle.names.specs.Names.{nameAt, names}
-use Rattle.dosages.specs.Visiting.{leftOf}
-use Rattle.visits.specs.Rows.{DetailAt}
-use Rattle.records.specs.Records.{more}
-use Rattle.dosages.proofs.Bodies.{object-at, body-unknown}
+use Rattle.records.proofs.Records.{stores}
+use Rattle.dosages.proofs.Bodies.{object-at, body-unknown, body-opens}
+use Rattle.dosages.proofs.Rowed.{kept-refused, kept-done, refused-visited, done-visited, one-grown}
 use Rattle.visits.proofs.Detailed as D
-use Rattle.visits.proofs.Detailed.{begins, stopped, refused-in, refused-kept}
+use Rattle.visits.specs.Rows.{DetailAt}
 use borrow.Author.Needs.{needs}
 use Rattle.visits.proofs.detail.daily.Statement.{statement}
 use Rattle.visits.proofs.detail.daily.Tie as tie
@@ -30,19 +28,19 @@ unfolding rowsOf dailyRows nameAt names
 returns c =
     let s = c .before .before .before .before .before .before .before .before .before in
     let a = s .args in (
-      λ n room fits p ms stands once.
-          (body-unknown (D.daily-known n) p (entriesOf ms) room (a .used) (s .pre .1) (a .text .now) (c .before .before .before .unknown-name .ensures refl p ms stands once) (c .before .q .given .1), refl),
-      λ room fits. refused-kept refl refl,
+      λ n st tells p ms stands once.
+          (body-unknown (D.daily-known n) tells (s .pre .1) p (entriesOf ms) _ (c .before .before .before .unknown-name .ensures refl p ms stands once) (c .before .q .given .1), refl),
+      kept-refused (a .terms) 1 (a .used) refl refl,
     )
 
 enum-told : tie.Need-enum-told
 enum-told c = search needs
 
-array-read-list-field : tie.Need-array-read-list-field
-array-read-list-field c = search needs
+array-read-four-field : tie.Need-array-read-four-field
+array-read-four-field c = search needs
 
-list-field-requires : tie.Need-list-field-requires
-list-field-requires c κs = search needs
+four-field-requires : tie.Need-four-field-requires
+four-field-requires c κs = search needs
 
 enum-known-f : tie.Need-enum-known-f
 enum-known-f c = search needs
@@ -50,61 +48,41 @@ enum-known-f c = search needs
 enum-told-2 : tie.Need-enum-told-2
 enum-told-2 c = search needs
 
-up-found-requires : tie.Need-up-found-requires
-up-found-requires c κs = search needs
+up-four-requires : tie.Need-up-four-requires
+up-four-requires c κs = search needs
 
 returns-2 : tie.Need-returns-2
 unfolding rowsOf dailyRows nameAt names
 returns-2 c =
     let s = c .before .before .before .before .before .before .before .before .before .before .before .before in
     let a = s .args in
-    let up = c .up-found .ensures _ _ (c .before .enum-told2 .given .1) in (
-      λ n room fits p ms stands once.
-          let l = leftOf room (more (a .used)) in
-          let begun = begins (D.daily-known n) p (entriesOf ms) room (a .used) (s .pre .1) (a .text .now) (c .before .before .before .before .before .before .unknown-name .ensures refl p ms stands once) (c .before .before .before .before .enum-told .given .1) (object-at stands) in
-          refused-in (a .text .now) room (a .used) (a .words .now) (DetailAt (a .text .now)) _ _ _ up
-          (stopped (drop (a .at) (a .text .now)) (entriesOf ms) l "ds" (aList fourDecimals) (λ ds. gives (P.daily (ds .morning) (ds .noon) (ds .evening) (ds .night))) begun
-          (D.list-refused (a .text .now) (a .at) _ (c .before .before .before .list-field .ensures .0 (s .pre .2)) (once .slot 1 (omega arith)) (c .before .enum-told2 .given .1) fourDecimals l)) refl,
-      λ room fits. refused-kept up refl,
+    let up = c .up-four .ensures _ _ (c .before .enum-told2 .given .1) in (
+      λ n st tells p ms stands once.
+          let b = body-opens (D.daily-known n) tells (s .pre .1) p (entriesOf ms) _ (c .before .before .before .before .before .before .unknown-name .ensures refl p ms stands once) (c .before .before .before .before .enum-told .given .1) refl (object-at stands) in
+          refused-visited (a .terms) (a .text .now) (a .used) (a .words .now) (DetailAt (a .text .now)) _ _ up (D.stopped-four b _ (c .before .before .before .four-field .ensures (s .pre .2) _ (once .slot 1 (omega arith))) (c .before .enum-told2 .given .1)) refl,
+      kept-refused (a .terms) 1 (a .used) up refl,
     )
 
-count-requires : tie.Need-count-requires
-count-requires c κs = search needs
+one-more-requires : tie.Need-one-more-requires
+one-more-requires c κs = search needs
 
-returns-3 : tie.Need-returns-3
-unfolding rowsOf dailyRows nameAt names
-returns-3 c =
-    let s = c .before .before .before .before .before .before .before .before .before .before .before .before .before .before in
-    let a = s .args in (
-      λ n room fits p ms stands once.
-          let l = leftOf room (more (a .used)) in
-          let begun = begins (D.daily-known n) p (entriesOf ms) room (a .used) (s .pre .1) (a .text .now) (c .before .before .before .before .before .before .before .before .unknown-name .ensures refl p ms stands once) (c .before .before .before .before .before .before .enum-told .given .1) (object-at stands) in
-          let list = D.list-is (a .text .now) (a .at) _ (c .before .before .before .before .before .list-field .ensures .0 (s .pre .2)) (once .slot 1 (omega arith)) (c .before .before .before .f .given .1) in
-          (stopped (drop (a .at) (a .text .now)) (entriesOf ms) l "ds" (aList fourDecimals) (λ ds. gives (P.daily (ds .morning) (ds .noon) (ds .evening) (ds .night))) begun (D.other-count list l (c .before .count .ensures) (c .if1 .taken)), refl),
-      λ room fits. refused-kept refl refl,
-    )
-
-four-requires : tie.Need-four-requires
-four-requires c κs =
-    let s = c .before .before .before .before .before .before .before .before .before .before .before .before .before .before .before in
-    (s .pre .0, s .pre .1)
+store-requires : tie.Need-store-requires
+store-requires c κs = search needs
 
 same-length : tie.Need-same-length
 same-length c = search needs
 
-returns-4 : tie.Need-returns-4
+returns-3 : tie.Need-returns-3
 unfolding rowsOf dailyRows nameAt names
-returns-4 c =
-    let s = c .before .before .before .before .before .before .before .before .before .before .before .before .before .before .before .before .before .before in
-    let a = s .args in (
-      λ n room fits p ms stands once.
-          let l = leftOf room (more (a .used)) in
-          let begun = begins (D.daily-known n) p (entriesOf ms) room (a .used) (s .pre .1) (a .text .now) (c .before .before .before .before .before .before .before .before .before .before .before .before .unknown-name .ensures refl p ms stands once) (c .before .before .before .before .before .before .before .before .before .before .enum-told .given .1) (object-at stands) in
-          let list = D.list-is (a .text .now) (a .at) _ (c .before .before .before .before .before .before .before .before .before .list-field .ensures .0 (s .pre .2)) (once .slot 1 (omega arith)) (c .before .before .before .before .before .before .before .f .given .1) in
-          D.daily-in (a .text .now) room (a .used) (a .words .now) (decimals (list .place) (valuesOf (list .inner)) l) _ (c .before .before .four .result) (c .before .before .four .last .1 .1 .1 .0)
-          (c .before .before .four .ensures .0 room (list .place) (list .inner) (list .stands) fits (sym (D.counted (list .stands)) ∙ sym (c .before .before .before .before .before .count .ensures) ∙ c .before .before .before .before .if1 .left))
-          (begun ∙ ap (λ o. bind o λ f m. done (D.asDaily f) m) (list .outcome fourDecimals l)),
-      c .before .before .four .ensures .1,
+returns-3 c =
+    let s = c .before .before .before .before .before .before .before .before .before .before .before .before .before .before .before .before .before in
+    let a = s .args in
+    let counted = one-more (s .pre .1) (c .before .before .before .one-more .ensures) in
+    let put = stores _ _ _ (s .pre .0 .size) (s .pre .1) (c .before .before .store .ensures) in (
+      λ n st tells p ms stands once.
+          let b = body-opens (D.daily-known n) tells (s .pre .1) p (entriesOf ms) _ (c .before .before .before .before .before .before .before .before .before .before .before .unknown-name .ensures refl p ms stands once) (c .before .before .before .before .before .before .before .before .before .enum-told .given .1) counted (object-at stands) in
+          done-visited (a .terms) (a .text .now) (a .used) (a .words .now) (DetailAt (a .text .now)) _ _ (put .0) (D.daily-did (a .text .now) _ _ _ _ (D.took-four b _ (c .before .before .before .before .before .before .before .before .four-field .ensures (s .pre .2) _ (once .slot 1 (omega arith))) (c .before .before .before .before .before .before .f .given .1)) (still-same (sym counted)) (put .1)),
+      kept-done (put .0) (c .before .before .store .kept .0) (one-grown (s .pre .0) (s .pre .1) (still-same (sym counted))),
     )
 
 pub daily-spec : {M : Type 1} → statement M
@@ -116,14 +94,13 @@ daily-spec =
     enum-known-q
     returns
     enum-told
-    array-read-list-field
-    list-field-requires
+    array-read-four-field
+    four-field-requires
     enum-known-f
     enum-told-2
-    up-found-requires
+    up-four-requires
     returns-2
-    count-requires
-    returns-3
-    four-requires
+    one-more-requires
+    store-requires
     same-length
-    returns-4)
+    returns-3)

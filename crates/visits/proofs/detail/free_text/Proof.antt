@@ -1,18 +1,15 @@
 -- A free text: its record has the string's start and length, and the place of its quote.
-use mathlib.Core.Path.{refl, sym, _∙_}
+use mathlib.Core.Path.{refl, sym}
 use native.Mathlib.Omega.{arith}
-use lib.ListN.{drop}
-use Rattle.document.specs.Posology as P
-use Rattle.document.specs.Schema.{gives, aText, rowsOf, freeTextRows}
 use Rattle.document.specs.Visit.{entriesOf}
+use Rattle.document.specs.Schema.{rowsOf, freeTextRows}
+use Rattle.document.proofs.Taken.{one-more, still-same}
 use Rattle.names.specs.Names.{nameAt, names}
-use Rattle.dosages.specs.Visiting.{leftOf}
-use Rattle.visits.specs.Rows.{DetailAt}
-use Rattle.records.specs.Records.{more}
-use Rattle.dosages.proofs.Bodies.{object-at, body-unknown}
+use Rattle.records.proofs.Records.{stores}
+use Rattle.dosages.proofs.Bodies.{object-at, body-unknown, body-opens, took}
+use Rattle.dosages.proofs.Rowed.{kept-refused, kept-done, refused-visited, done-visited, one-ready}
 use Rattle.visits.proofs.Detailed as D
-use Rattle.visits.proofs.Detailed.{begins, took, stopped, refused-in, refused-kept, done-kept}
-use Rattle.records.proofs.Records.{stored}
+use Rattle.visits.specs.Rows.{DetailAt}
 use borrow.Author.Needs.{needs}
 use Rattle.visits.proofs.detail.free_text.Statement.{statement}
 use Rattle.visits.proofs.detail.free_text.Tie as tie
@@ -31,9 +28,9 @@ unfolding rowsOf freeTextRows nameAt names
 returns c =
     let s = c .before .before .before .before .before .before .before .before .before in
     let a = s .args in (
-      λ n p ms stands once.
-          (body-unknown (D.free-text-known n) p (entriesOf ms) (a .room) (a .used) (s .pre .1) (a .text .now) (c .before .before .before .unknown-name .ensures refl p ms stands once) (c .before .q .given .1), refl),
-      refused-kept refl refl,
+      λ n st tells p ms stands once.
+          (body-unknown (D.free-text-known n) tells (s .pre .1) p (entriesOf ms) _ (c .before .before .before .unknown-name .ensures refl p ms stands once) (c .before .q .given .1), refl),
+      kept-refused (a .terms) 1 (a .used) refl refl,
     )
 
 enum-told : tie.Need-enum-told
@@ -42,8 +39,8 @@ enum-told c = search needs
 array-read-text-field : tie.Need-array-read-text-field
 array-read-text-field c = search needs
 
-sub-text-field : tie.Need-sub-text-field
-sub-text-field c = search needs
+one-more-requires : tie.Need-one-more-requires
+one-more-requires c κs = search needs
 
 text-field-requires : tie.Need-text-field-requires
 text-field-requires c κs = search needs
@@ -60,27 +57,18 @@ up-worded-requires c κs = search needs
 returns-2 : tie.Need-returns-2
 unfolding rowsOf freeTextRows nameAt names
 returns-2 c =
-    let s = c .before .before .before .before .before .before .before .before .before .before .before .before in
+    let s = c .before .before .before .before .before .before .before .before .before .before .before .before .before in
     let a = s .args in
-    let up = c .up-worded .ensures _ _ (c .before .enum-told2 .given .1) in (
-      λ n p ms stands once.
-          let l = leftOf (a .room) (more (a .used)) in
-          let begun = begins (D.free-text-known n) p (entriesOf ms) (a .room) (a .used) (s .pre .1) (a .text .now) (c .before .before .before .before .before .before .unknown-name .ensures refl p ms stands once) (c .before .before .before .before .enum-told .given .1) (object-at stands) in
-          refused-in (a .text .now) (a .room) (a .used) (a .words .now) (DetailAt (a .text .now)) _ _ _ up
-          (stopped (drop (a .at) (a .text .now)) (entriesOf ms) l "text" aText (λ t. gives (P.freeText t)) begun
-          (D.text-refused (a .text .now) (a .at) _ _ (c .before .before .before .text-field .ensures .0 (s .pre .2)) (once .slot 2 (omega arith)) (c .before .enum-told2 .given .1) l refl)) refl,
-      refused-kept up refl,
+    let up = c .up-worded .ensures _ _ (c .before .enum-told2 .given .1) in
+    let counted = one-more (s .pre .1) (c .before .before .before .before .one-more .ensures) in (
+      λ n st tells p ms stands once.
+          let b = body-opens (D.free-text-known n) tells (s .pre .1) p (entriesOf ms) _ (c .before .before .before .before .before .before .before .unknown-name .ensures refl p ms stands once) (c .before .before .before .before .before .enum-told .given .1) counted (object-at stands) in
+          refused-visited (a .terms) (a .text .now) (a .used) (a .words .now) (DetailAt (a .text .now)) _ _ up (D.stopped-text b _ (c .before .before .before .text-field .ensures .0 (s .pre .2) _ (once .slot 2 (omega arith))) (c .before .enum-told2 .given .1)) refl,
+      kept-refused (a .terms) 1 (a .used) up refl,
     )
 
-put-requires : tie.Need-put-requires
-put-requires c κs = search needs
-
-add-t20 : tie.Need-add-t20
-add-t20 c = search needs
-
-add-t21 : tie.Need-add-t21
-add-t21 c =
-    omega (arith, c .before .before .before .before .before .before .before .before .text-field .ensures .1 _ _ (c .before .before .before .before .before .before .f .given .1))
+store-requires : tie.Need-store-requires
+store-requires c κs = search needs
 
 same-length : tie.Need-same-length
 same-length c = search needs
@@ -89,14 +77,15 @@ returns-3 : tie.Need-returns-3
 unfolding rowsOf freeTextRows nameAt names
 returns-3 c =
     let s = c .before .before .before .before .before .before .before .before .before .before .before .before .before .before .before .before .before in
-    let a = s .args in (
-      λ n p ms stands once.
-          let l = leftOf (a .room) (more (a .used)) in
-          let begun = begins (D.free-text-known n) p (entriesOf ms) (a .room) (a .used) (s .pre .1) (a .text .now) (c .before .before .before .before .before .before .before .before .before .before .before .unknown-name .ensures refl p ms stands once) (c .before .before .before .before .before .before .before .before .before .enum-told .given .1) (object-at stands) in
-          let string = D.text-is (a .text .now) (a .at) _ _ (c .before .before .before .before .before .before .before .before .text-field .ensures .0 (s .pre .2)) (once .slot 2 (omega arith)) (c .before .before .before .before .before .before .f .given .1) in
-          D.free-text-did (a .text .now) (a .room) (a .used) (a .words .now) _ _ _ _ (string .size) (string .fits) (s .pre .3) (s .pre .1)
-          (took (drop (a .at) (a .text .now)) (entriesOf ms) l "text" aText (λ t. gives (P.freeText t)) begun (string .outcome l refl)) (c .before .before .before .put .ensures ∙ sym (stored _ _ _ (s .pre .0 .size) (s .pre .1))),
-      done-kept refl (c .before .before .before .put .kept .0) (record { some = omega arith; few = omega arith }) (omega (arith, c .before .before .before .before .before .before .before .before .text-field .ensures .1 _ _ (c .before .before .before .before .before .before .f .given .1))),
+    let a = s .args in
+    let counted = one-more (s .pre .1) (c .before .before .before .before .before .before .before .before .one-more .ensures) in
+    let longer = c .before .before .before .before .before .before .before .text-field .ensures .1 _ _ _ (c .before .before .before .before .before .f .given .1) (one-ready (s .pre .0) (s .pre .1) (still-same (sym counted)) .fits) in
+    let put = stores _ _ _ (s .pre .0 .size) (s .pre .1) (c .before .before .store .ensures) in (
+      λ n st tells p ms stands once.
+          let b = body-opens (D.free-text-known n) tells (s .pre .1) p (entriesOf ms) _ (c .before .before .before .before .before .before .before .before .before .before .before .unknown-name .ensures refl p ms stands once) (c .before .before .before .before .before .before .before .before .before .enum-told .given .1) counted (object-at stands) in
+          let h = D.text-hands b _ (c .before .before .before .before .before .before .before .text-field .ensures .0 (s .pre .2) _ (once .slot 2 (omega arith))) (c .before .before .before .before .before .f .given .1) in
+          done-visited (a .terms) (a .text .now) (a .used) (a .words .now) (DetailAt (a .text .now)) _ _ (put .0) (D.free-text-did (a .text .now) (h .value) _ _ (took b h) (h .holds) counted longer (put .1)),
+      kept-done (put .0) (c .before .before .store .kept .0) (D.grown-longer (s .pre .1) counted longer),
     )
 
 pub free-text-spec : {M : Type 1} → statement M
@@ -109,14 +98,12 @@ free-text-spec =
     returns
     enum-told
     array-read-text-field
-    sub-text-field
+    one-more-requires
     text-field-requires
     enum-known-f
     enum-told-2
     up-worded-requires
     returns-2
-    put-requires
-    add-t20
-    add-t21
+    store-requires
     same-length
     returns-3)

@@ -1,20 +1,15 @@
--- A pause: its duration and unit in one record.
+-- A pause: its duration.
 use mathlib.Core.Path.{refl}
 use native.Mathlib.Omega.{arith}
-use lib.ListN.{drop}
-use Rattle.document.specs.Posology as P
-use Rattle.document.specs.Schema.{need, gives, aDuration, aTimeUnit, rowsOf, pauseRows}
 use Rattle.document.specs.Visit.{entriesOf}
+use Rattle.document.specs.Schema.{rowsOf, pauseRows}
+use Rattle.document.proofs.Taken.{one-more, still-then}
 use Rattle.names.specs.Names.{nameAt, names}
-use Rattle.dosages.specs.Visiting.{leftOf}
-use Rattle.visits.specs.Rows.{ObjectIn, ObjectRows}
-use Rattle.document.specs.Valid.{objectStrings}
-use Rattle.records.specs.Records.{more}
-use Rattle.dosages.proofs.Bodies.{object-at, body-unknown}
-use Rattle.dosages.proofs.Rowed.{leaf-did}
+use Rattle.records.proofs.Records.{stores}
+use Rattle.dosages.proofs.Bodies.{object-at, body-unknown, body-opens, took-integer, stopped-integer}
+use Rattle.dosages.proofs.Rowed.{kept-refused, kept-done, refused-visited, done-visited, one-grown}
 use Rattle.visits.proofs.Detailed as D
-use Rattle.visits.proofs.Detailed.{begins, took, stopped, number-is, number-refused, refused-in, did-in, refused-kept, done-kept}
-use Rattle.records.proofs.Records.{leaf-stores}
+use Rattle.visits.specs.Rows.{ObjectIn}
 use borrow.Author.Needs.{needs}
 use Rattle.visits.proofs.detail.pause.Statement.{statement}
 use Rattle.visits.proofs.detail.pause.Tie as tie
@@ -33,9 +28,9 @@ unfolding rowsOf pauseRows nameAt names
 returns c =
     let s = c .before .before .before .before .before .before .before .before .before in
     let a = s .args in (
-      λ n room fits p ms stands once.
-          (body-unknown (D.pause-known n) p (entriesOf ms) room (a .used) (s .pre .1) (a .text .now) (c .before .before .before .unknown-name .ensures refl p ms stands once) (c .before .q .given .1), refl),
-      λ room fits. refused-kept refl refl,
+      λ n st tells p ms stands once.
+          (body-unknown (D.pause-known n) tells (s .pre .1) p (entriesOf ms) _ (c .before .before .before .unknown-name .ensures refl p ms stands once) (c .before .q .given .1), refl),
+      kept-refused (a .terms) 1 (a .used) refl refl,
     )
 
 enum-told : tie.Need-enum-told
@@ -43,6 +38,9 @@ enum-told c = search needs
 
 array-read-integer-field : tie.Need-array-read-integer-field
 array-read-integer-field c = search needs
+
+one-more-requires : tie.Need-one-more-requires
+one-more-requires c κs = search needs
 
 integer-field-requires : tie.Need-integer-field-requires
 integer-field-requires c κs = search needs
@@ -53,21 +51,20 @@ enum-known-f c = search needs
 enum-told-2 : tie.Need-enum-told-2
 enum-told-2 c = search needs
 
-up-requires : tie.Need-up-requires
-up-requires c κs = search needs
+up-counted-requires : tie.Need-up-counted-requires
+up-counted-requires c κs = search needs
 
 returns-2 : tie.Need-returns-2
 unfolding rowsOf pauseRows nameAt names
 returns-2 c =
-    let s = c .before .before .before .before .before .before .before .before .before .before .before .before in
+    let s = c .before .before .before .before .before .before .before .before .before .before .before .before .before in
     let a = s .args in
-    let up = c .up .ensures _ _ (c .before .enum-told2 .given .1) in (
-      λ n room fits p ms stands once.
-          let l = leftOf room (more (a .used)) in
-          let begun = begins (D.pause-known n) p (entriesOf ms) room (a .used) (s .pre .1) (a .text .now) (c .before .before .before .before .before .before .unknown-name .ensures refl p ms stands once) (c .before .before .before .before .enum-told .given .1) (object-at stands) in
-          refused-in (a .text .now) room (a .used) (a .words .now) (ObjectIn (a .text .now)) _ _ _ up
-          (stopped (drop (a .at) (a .text .now)) (entriesOf ms) l "du" aDuration (λ du. need "duU" aTimeUnit λ unit. gives (P.pause du unit)) begun (number-refused (a .text .now) (a .at) _ _ _ (c .before .before .before .integer-field .ensures (s .pre .2)) _ (once .slot 19 (omega arith)) l (c .before .enum-told2 .given .1))) refl,
-      λ room fits. refused-kept up refl,
+    let up = c .up-counted .ensures _ _ (c .before .enum-told2 .given .1) in
+    let counted = one-more (s .pre .1) (c .before .before .before .before .one-more .ensures) in (
+      λ n st tells p ms stands once.
+          let b = body-opens (D.pause-known n) tells (s .pre .1) p (entriesOf ms) _ (c .before .before .before .before .before .before .before .unknown-name .ensures refl p ms stands once) (c .before .before .before .before .before .enum-told .given .1) counted (object-at stands) in
+          refused-visited (a .terms) (a .text .now) (a .used) (a .words .now) (ObjectIn (a .text .now)) _ _ up (stopped-integer b _ (c .before .before .before .integer-field .ensures .0 (s .pre .2) _ (once .slot 19 (omega arith))) (c .before .enum-told2 .given .1)) refl,
+      kept-refused (a .terms) 1 (a .used) up refl,
     )
 
 array-read-integer-field-2 : tie.Need-array-read-integer-field-2
@@ -82,44 +79,43 @@ enum-known-f-2 c = search needs
 enum-told-3 : tie.Need-enum-told-3
 enum-told-3 c = search needs
 
-up-requires-2 : tie.Need-up-requires-2
-up-requires-2 c κs = search needs
+up-counted-requires-2 : tie.Need-up-counted-requires-2
+up-counted-requires-2 c κs = search needs
 
 returns-3 : tie.Need-returns-3
 unfolding rowsOf pauseRows nameAt names
 returns-3 c =
-    let s = c .before .before .before .before .before .before .before .before .before .before .before .before .before .before .before .before in
+    let s = c .before .before .before .before .before .before .before .before .before .before .before .before .before .before .before .before .before in
     let a = s .args in
-    let up = c .up2 .ensures _ _ (c .before .enum-told3 .given .1) in (
-      λ n room fits p ms stands once.
-          let l = leftOf room (more (a .used)) in
-          let begun = begins (D.pause-known n) p (entriesOf ms) room (a .used) (s .pre .1) (a .text .now) (c .before .before .before .before .before .before .before .before .before .before .unknown-name .ensures refl p ms stands once) (c .before .before .before .before .before .before .before .before .enum-told .given .1) (object-at stands) in
-          let du = took (drop (a .at) (a .text .now)) (entriesOf ms) l "du" aDuration (λ du. need "duU" aTimeUnit λ unit. gives (P.pause du unit)) begun (number-is (a .text .now) (a .at) _ _ _ (c .before .before .before .before .before .before .before .integer-field .ensures (s .pre .2)) _ (once .slot 19 (omega arith)) l (c .before .before .before .before .before .f .given .1)) in
-          refused-in (a .text .now) room (a .used) (a .words .now) (ObjectIn (a .text .now)) _ _ _ up
-          (stopped (drop (a .at) (a .text .now)) (entriesOf ms) l "duU" aTimeUnit (λ unit. gives (P.pause _ unit)) du (number-refused (a .text .now) (a .at) _ _ _ (c .before .before .before .integer-field2 .ensures (s .pre .2)) _ (once .slot 18 (omega arith)) l (c .before .enum-told3 .given .1))) refl,
-      λ room fits. refused-kept up refl,
+    let up = c .up-counted2 .ensures _ _ (c .before .enum-told3 .given .1) in
+    let counted = one-more (s .pre .1) (c .before .before .before .before .before .before .before .before .one-more .ensures) in (
+      λ n st tells p ms stands once.
+          let b = body-opens (D.pause-known n) tells (s .pre .1) p (entriesOf ms) _ (c .before .before .before .before .before .before .before .before .before .before .before .unknown-name .ensures refl p ms stands once) (c .before .before .before .before .before .before .before .before .before .enum-told .given .1) counted (object-at stands) in
+          let du = took-integer b _ (c .before .before .before .before .before .before .before .integer-field .ensures .0 (s .pre .2) _ (once .slot 19 (omega arith))) (c .before .before .before .before .before .f .given .1) in
+          refused-visited (a .terms) (a .text .now) (a .used) (a .words .now) (ObjectIn (a .text .now)) _ _ up (stopped-integer du _ (c .before .before .before .integer-field2 .ensures .0 (s .pre .2) _ (once .slot 18 (omega arith))) (c .before .enum-told3 .given .1)) refl,
+      kept-refused (a .terms) 1 (a .used) up refl,
     )
 
-leaf-requires : tie.Need-leaf-requires
-leaf-requires c κs = search needs
+store-requires : tie.Need-store-requires
+store-requires c κs = search needs
 
 same-length : tie.Need-same-length
 same-length c = search needs
 
 returns-4 : tie.Need-returns-4
-unfolding rowsOf pauseRows nameAt names ObjectRows objectStrings
+unfolding rowsOf pauseRows nameAt names
 returns-4 c =
-    let s = c .before .before .before .before .before .before .before .before .before .before .before .before .before .before .before .before .before .before .before .before in
+    let s = c .before .before .before .before .before .before .before .before .before .before .before .before .before .before .before .before .before .before .before .before .before in
     let a = s .args in
-    let leaf = leaf-stores _ _ _ (s .pre .0 .size) (s .pre .1) (c .before .before .leaf .ensures) in (
-      λ n room fits p ms stands once.
-          let l = leftOf room (more (a .used)) in
-          let begun = begins (D.pause-known n) p (entriesOf ms) room (a .used) (s .pre .1) (a .text .now) (c .before .before .before .before .before .before .before .before .before .before .before .before .before .before .unknown-name .ensures refl p ms stands once) (c .before .before .before .before .before .before .before .before .before .before .before .before .enum-told .given .1) (object-at stands) in
-          let du = took (drop (a .at) (a .text .now)) (entriesOf ms) l "du" aDuration (λ du. need "duU" aTimeUnit λ unit. gives (P.pause du unit)) begun (number-is (a .text .now) (a .at) _ _ _ (c .before .before .before .before .before .before .before .before .before .before .before .integer-field .ensures (s .pre .2)) _ (once .slot 19 (omega arith)) l (c .before .before .before .before .before .before .before .before .before .f .given .1)) in
-          let unit = took (drop (a .at) (a .text .now)) (entriesOf ms) l "duU" aTimeUnit (λ unit. gives (P.pause _ unit)) du (number-is (a .text .now) (a .at) _ _ _ (c .before .before .before .before .before .before .before .integer-field2 .ensures (s .pre .2)) _ (once .slot 18 (omega arith)) l (c .before .before .before .before .before .f2 .given .1)) in
-          did-in (a .text .now) room (a .used) (a .words .now) (ObjectIn (a .text .now)) _ _ _ (leaf .0)
-          (leaf-did _ _ unit (refl, omega arith) (s .pre .1) fits (leaf .1)),
-      λ room fits. done-kept (leaf .0) (c .before .before .leaf .kept .0) (record { some = omega arith; few = omega arith }) fits,
+    let counted = one-more (s .pre .1) (c .before .before .before .before .before .before .before .before .before .before .before .before .one-more .ensures) in
+    let one = D.counted-still (a .used) counted (still-then (c .before .before .before .before .before .before .before .before .before .before .before .integer-field .ensures .1 .0 _ _ (c .before .before .before .before .before .before .before .before .before .f .given .1)) (c .before .before .before .before .before .before .before .integer-field2 .ensures .1 .0 _ _ (c .before .before .before .before .before .f2 .given .1))) in
+    let put = stores _ _ _ (s .pre .0 .size) (s .pre .1) (c .before .before .store .ensures) in (
+      λ n st tells p ms stands once.
+          let b = body-opens (D.pause-known n) tells (s .pre .1) p (entriesOf ms) _ (c .before .before .before .before .before .before .before .before .before .before .before .before .before .before .before .unknown-name .ensures refl p ms stands once) (c .before .before .before .before .before .before .before .before .before .before .before .before .before .enum-told .given .1) counted (object-at stands) in
+          let du = took-integer b _ (c .before .before .before .before .before .before .before .before .before .before .before .integer-field .ensures .0 (s .pre .2) _ (once .slot 19 (omega arith))) (c .before .before .before .before .before .before .before .before .before .f .given .1) in
+          let unit = took-integer du _ (c .before .before .before .before .before .before .before .integer-field2 .ensures .0 (s .pre .2) _ (once .slot 18 (omega arith))) (c .before .before .before .before .before .f2 .given .1) in
+          done-visited (a .terms) (a .text .now) (a .used) (a .words .now) (ObjectIn (a .text .now)) _ _ (put .0) (D.pause-did (a .text .now) _ _ unit one (put .1)),
+      kept-done (put .0) (c .before .before .store .kept .0) (one-grown (s .pre .0) (s .pre .1) one),
     )
 
 pub pause-spec : {M : Type 1} → statement M
@@ -132,17 +128,18 @@ pause-spec =
     returns
     enum-told
     array-read-integer-field
+    one-more-requires
     integer-field-requires
     enum-known-f
     enum-told-2
-    up-requires
+    up-counted-requires
     returns-2
     array-read-integer-field-2
     integer-field-requires-2
     enum-known-f-2
     enum-told-3
-    up-requires-2
+    up-counted-requires-2
     returns-3
-    leaf-requires
+    store-requires
     same-length
     returns-4)

@@ -1,18 +1,17 @@
 -- A single: a record above its timed dosage.
-use mathlib.Core.Path.{refl, _∙_}
+use mathlib.Core.Path.{refl, sym, _∙_}
 use native.Mathlib.Omega.{arith}
-use lib.ListN.{drop}
-use Rattle.document.specs.Posology as P
-use Rattle.document.specs.Schema.{gives, anObject, aTimed, underSingle, rowsOf, singleRows}
 use Rattle.document.specs.Visit.{entriesOf}
+use Rattle.document.specs.Schema.{rowsOf, singleRows}
+use Rattle.document.proofs.Taken.{one-more, still-same}
 use Rattle.names.specs.Names.{nameAt, names}
-use Rattle.dosages.specs.Visiting.{leftOf}
-use Rattle.visits.specs.Rows.{DetailAt}
-use Rattle.records.specs.Records.{more}
-use Rattle.dosages.proofs.Bodies.{object-at, body-unknown}
+use Rattle.records.proofs.Records.{stores}
+use Rattle.dosages.proofs.Bodies.{object-at, body-unknown, body-opens}
+use Rattle.dosages.proofs.Rowed.{kept-refused, kept-done, refused-visited, done-visited, one-ready, grown-above}
+use Rattle.dosages.proofs.Below as B
 use Rattle.visits.proofs.Detailed as D
-use Rattle.visits.proofs.Detailed.{begins, took, stopped, refused-in, did-in, refused-kept, done-kept}
-use Rattle.records.proofs.Records.{above-stores, one-more}
+use Rattle.dosages.specs.Visiting.{TimedRows}
+use Rattle.visits.specs.Rows.{DetailAt}
 use borrow.Author.Needs.{needs}
 use Rattle.visits.proofs.detail.single.Statement.{statement}
 use Rattle.visits.proofs.detail.single.Tie as tie
@@ -31,19 +30,19 @@ unfolding rowsOf singleRows nameAt names
 returns c =
     let s = c .before .before .before .before .before .before .before .before .before in
     let a = s .args in (
-      λ n room fits p ms stands once.
-          (body-unknown (D.single-known n) p (entriesOf ms) room (a .used) (s .pre .1) (a .text .now) (c .before .before .before .unknown-name .ensures refl p ms stands once) (c .before .q .given .1), refl),
-      λ room fits. refused-kept refl refl,
+      λ n st tells p ms stands once.
+          (body-unknown (D.single-known n) tells (s .pre .1) p (entriesOf ms) _ (c .before .before .before .unknown-name .ensures refl p ms stands once) (c .before .q .given .1), refl),
+      kept-refused (a .terms) 1 (a .used) refl refl,
     )
 
 enum-told : tie.Need-enum-told
 enum-told c = search needs
 
-array-read-read-timed : tie.Need-array-read-read-timed
-array-read-read-timed c = search needs
-
 one-more-requires : tie.Need-one-more-requires
 one-more-requires c κs = search needs
+
+array-read-read-timed : tie.Need-array-read-read-timed
+array-read-read-timed c = search needs
 
 read-timed-requires : tie.Need-read-timed-requires
 read-timed-requires c κs = search needs
@@ -62,18 +61,19 @@ unfolding rowsOf singleRows nameAt names
 returns-2 c =
     let s = c .before .before .before .before .before .before .before .before .before .before .before .before .before .before .before in
     let a = s .args in
-    let answer = D.timed-answer (c .before .before .before .before .read-timed .ensures) (one-more (s .pre .1) (c .before .before .before .before .before .before .one-more .ensures)) (s .pre .0) (s .pre .1) (s .pre .2) (omega arith) in (
-      λ n room fits p ms stands once.
-          let l = leftOf room (more (a .used)) in
-          let begun = begins (D.single-known n) p (entriesOf ms) room (a .used) (s .pre .1) (a .text .now) (c .before .before .before .before .before .before .before .before .before .unknown-name .ensures refl p ms stands once) (c .before .before .before .before .before .before .before .enum-told .given .1) (object-at stands) in
-          let timed = D.timed-refused underSingle (a .text .now) (a .at) _ (a .used) (a .words .now) (c .before .before .before .before .read-timed .result) (c .before .before .before .before .read-timed .last .1 .1 .1 .1 .1 .0) (one-more (s .pre .1) (c .before .before .before .before .before .before .one-more .ensures)) (answer .0) (once .slot 3 (omega arith)) room fits (c .enum-told2 .given .1) in
-          refused-in (a .text .now) room (a .used) (a .words .now) (DetailAt (a .text .now)) _ _ _ (c .enum-told2 .given .1)
-          (stopped (drop (a .at) (a .text .now)) (entriesOf ms) l "tdo" (anObject (aTimed underSingle)) (λ td. gives (P.single td)) begun (timed .0)) (timed .1),
-      λ room fits. refused-kept (c .enum-told2 .given .1) (answer .1 .size),
+    let timed = c .before .before .before .before .read-timed in
+    let counted = one-more (s .pre .1) (c .before .before .before .before .before .before .one-more .ensures) in
+    let one = still-same (sym counted) in
+    let ready = one-ready (s .pre .0) (s .pre .1) one in
+    let kept = timed .ensures .kept (ready, s .pre .2, omega arith) in (
+      λ n st tells p ms stands once.
+          let b = body-opens (D.single-known n) tells (s .pre .1) p (entriesOf ms) _ (c .before .before .before .before .before .before .before .before .before .unknown-name .ensures refl p ms stands once) (c .before .before .before .before .before .before .before .enum-told .given .1) counted (object-at stands) in
+          refused-visited (a .terms) (a .text .now) (a .used) (a .words .now) (DetailAt (a .text .now)) _ _ (c .enum-told2 .given .1) (B.object-stopped (a .at) b TimedRows _ (a .words .now) (timed .last .1 .1 .1 .1 .1 .1 .0) (timed .result) (timed .ensures .reads (ready, s .pre .2, omega arith)) (once .slot 3 (omega arith)) (c .enum-told2 .given .1) .0) (kept .size),
+      kept-refused (a .terms) 1 (a .used) (c .enum-told2 .given .1) (kept .size),
     )
 
-above-requires : tie.Need-above-requires
-above-requires c κs = search needs
+store-requires : tie.Need-store-requires
+store-requires c κs = search needs
 
 same-length-2 : tie.Need-same-length-2
 same-length-2 c = search needs
@@ -83,17 +83,17 @@ unfolding rowsOf singleRows nameAt names
 returns-3 c =
     let s = c .before .before .before .before .before .before .before .before .before .before .before .before .before .before .before .before .before .before .before .before in
     let a = s .args in
-    let answer = D.timed-answer (c .before .before .before .before .before .before .before .before .before .read-timed .ensures) (one-more (s .pre .1) (c .before .before .before .before .before .before .before .before .before .before .before .one-more .ensures)) (s .pre .0) (s .pre .1) (s .pre .2) (omega arith) in
-    let above = above-stores _ _ _ (answer .1 .size ∙ s .pre .0 .size) (s .pre .1) (c .before .before .above .ensures) in (
-      λ n room fits p ms stands once.
-          let l = leftOf room (more (a .used)) in
-          let begun = begins (D.single-known n) p (entriesOf ms) room (a .used) (s .pre .1) (a .text .now) (c .before .before .before .before .before .before .before .before .before .before .before .before .before .before .unknown-name .ensures refl p ms stands once) (c .before .before .before .before .before .before .before .before .before .before .before .before .enum-told .given .1) (object-at stands) in
-          let timed = D.timed-did underSingle (a .text .now) (a .at) _ (a .used) (a .words .now) (c .before .before .before .before .before .before .before .before .before .read-timed .result) (c .before .before .before .before .before .before .before .before .before .read-timed .last .1 .1 .1 .1 .1 .0) (one-more (s .pre .1) (c .before .before .before .before .before .before .before .before .before .before .before .one-more .ensures)) (answer .0) (once .slot 3 (omega arith)) room fits (c .before .before .before .before .before .r .given .1) in
-          did-in (a .text .now) room (a .used) (a .words .now) (DetailAt (a .text .now)) _ _ _ (above .0)
-          (D.single-did (a .text .now) timed refl (took (drop (a .at) (a .text .now)) (entriesOf ms) l "tdo" (anObject (aTimed underSingle)) (λ td. gives (P.single td)) begun (timed .outcome)) (above .1)),
-      λ room fits.
-          let grown = answer .1 .grown _ (c .before .before .before .before .before .r .given .1) in
-          done-kept (above .0) (c .before .before .above .kept .0 ∙ answer .1 .size) (D.grown-as refl (D.grown-more (one-more (s .pre .1) (c .before .before .before .before .before .before .before .before .before .before .before .one-more .ensures)) grown)) fits,
+    let timed = c .before .before .before .before .before .before .before .before .before .read-timed in
+    let counted = one-more (s .pre .1) (c .before .before .before .before .before .before .before .before .before .before .before .one-more .ensures) in
+    let one = still-same (sym counted) in
+    let ready = one-ready (s .pre .0) (s .pre .1) one in
+    let kept = timed .ensures .kept (ready, s .pre .2, omega arith) in
+    let put = stores _ _ _ (kept .size ∙ s .pre .0 .size) (s .pre .1) (c .before .before .store .ensures) in (
+      λ n st tells p ms stands once.
+          let b = body-opens (D.single-known n) tells (s .pre .1) p (entriesOf ms) _ (c .before .before .before .before .before .before .before .before .before .before .before .before .before .before .unknown-name .ensures refl p ms stands once) (c .before .before .before .before .before .before .before .before .before .before .before .before .enum-told .given .1) counted (object-at stands) in
+          let d = B.object-did (a .at) b TimedRows _ (a .words .now) (timed .last .1 .1 .1 .1 .1 .1 .0) (timed .result) (timed .ensures .reads (ready, s .pre .2, omega arith)) (once .slot 3 (omega arith)) (c .before .before .before .before .before .r .given .1) in
+          done-visited (a .terms) (a .text .now) (a .used) (a .words .now) (DetailAt (a .text .now)) _ _ (put .0) (D.single-did (a .text .now) (a .used) d one (still-same refl) (B.took-below b d) (put .1)),
+      kept-done (put .0) (c .before .before .store .kept .0 ∙ kept .size) (grown-above one (kept .grown _ (c .before .before .before .before .before .r .given .1)) (still-same refl)),
     )
 
 pub single-spec : {M : Type 1} → statement M
@@ -105,13 +105,13 @@ single-spec =
     enum-known-q
     returns
     enum-told
-    array-read-read-timed
     one-more-requires
+    array-read-read-timed
     read-timed-requires
     enum-known-r
     enum-told-2
     same-length
     returns-2
-    above-requires
+    store-requires
     same-length-2
     returns-3)
