@@ -1,4 +1,6 @@
 // The walk for a C program that times it (bench/walk): the end of the one object, or the refusal's place and number.
+#![tactic(auto)]
+
 ghost use Rattle.std.specs.Prelude.{◌≡◌, ◌<◌};
 ghost use Rattle.json_grammar.specs.Walk.{one_object};
 ghost use Rattle.bench_walk.specs.Timed.{coded as coded_as, timed};

@@ -1,4 +1,6 @@
 // What a call of the hospital side tells of an answer: the number that it returns, and the place (include/posology.h).
+#![tactic(auto)]
+
 ghost use Rattle.std.specs.Prelude.{◌≡◌};
 ghost use Rattle.c_answers.specs.Telling.{tells, told_next, told_writing};
 
@@ -6,7 +8,7 @@ use document::table::{NextAnswer, Writing};
 
 const ONLY_BLANKS: u64 = 255;
 
-#[derive(Drop)]
+#[derive(Clone, Copy)]
 pub struct Told {
     pub number: u64,
     pub place: u64,

@@ -1,4 +1,6 @@
 // A table laid into the lent area of the hospital side (docs/AREA.md).
+#![tactic(auto)]
+
 ghost use Rattle.std.specs.Prelude.{◌≡◌, List, [], ◌∷◌, cond, ℕ, eqb, length};
 ghost use Rattle.document.specs.Words.{flag, date_words, head_words};
 ghost use Rattle.c_numbers.specs.Eights.{all_bytes};

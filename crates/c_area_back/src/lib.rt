@@ -1,4 +1,6 @@
 // The head, the counts and the words of records that an area's bytes would lay out (docs/AREA.md).
+#![tactic(auto)]
+
 ghost use Rattle.std.specs.Prelude.{◌≡◌, ◌<◌, length, take, drop};
 ghost use Rattle.document.specs.Lookup.{same};
 ghost use Rattle.c_area.specs.Area.{area_bytes, numbers_in, date_in, text_in, head_in};
@@ -9,7 +11,7 @@ use document::table::{Date, Head, Text, WORDS};
 const HEAD: usize = 26;
 
 // The head's part of an area: whether these numbers are those of the head and the counts that they are read as.
-#[derive(Drop)]
+#[derive(Clone, Copy)]
 pub struct HeadPart {
     pub laid: bool,
     pub head: Head,

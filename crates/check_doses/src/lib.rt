@@ -1,4 +1,6 @@
 // Whether words lay out a detail without strings: its doses, their times and their days (document 01, "Objects" and "The table").
+#![tactic(auto)]
+
 ghost use Rattle.std.specs.Prelude.{◌<◌, ◌≤◌};
 ghost use Rattle.document.specs.Words.{words_at_most};
 ghost use Rattle.check_doses.specs.Doses.{Decides, Within, Row, Rising, DosageAt, ApplicationAt, ApplicationsAt, ListedAt, PlainAt, Nested, DaysAt, IntervalAt, TimedAt, SingleAt, CyclicAt, StillAt};

@@ -11,7 +11,7 @@ use check_doses::{MOST_BELOW, MOST_INTEGER, nested, row, still};
 use table_rows::below;
 
 // The text bytes taken with what was checked; or that it is none.
-#[derive(Drop)]
+#[derive(Clone, Copy)]
 pub struct Checked {
     pub good: bool,
     pub text: usize,

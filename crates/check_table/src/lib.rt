@@ -1,4 +1,6 @@
 // Whether a table can be read: what the writer refuses with 18 fails this (document 01, "Answers by number").
+#![tactic(auto)]
+
 mod check;
 mod check_head;
 mod utf8;

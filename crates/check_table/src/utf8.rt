@@ -6,7 +6,7 @@ ghost use Rattle.document.specs.Utf8.{follow_rows, go_on, well_formed, is_utf8};
 ghost use Rattle.check_table.specs.Tails.{following, expects, follows};
 
 // The bytes of a sequence that are still to come, and the bounds of the next one.
-#[derive(Drop)]
+#[derive(Clone, Copy)]
 pub struct Tail {
     pub wrong: bool,
     pub left: u8,

@@ -1,4 +1,6 @@
 // The check program.
+#![tactic(auto)]
+
 fn main() {
     checker_lines::console::check();
 }

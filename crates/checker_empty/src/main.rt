@@ -1,4 +1,6 @@
 // The check program, run on an empty input.
+#![tactic(auto)]
+
 fn main() {
     checker_lines::console::check();
 }

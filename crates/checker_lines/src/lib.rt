@@ -1,4 +1,6 @@
 // The line that the check program prints of its input (document 01, "What the part does").
+#![tactic(auto)]
+
 pub mod console;
 
 ghost use Rattle.std.specs.Prelude.{◌≡◌, List, [], ◌++◌, ℕ, ◌<◌, length};

@@ -1,4 +1,6 @@
 // The check program, run on a text that is refused.
+#![tactic(auto)]
+
 fn main() {
     checker_lines::console::check();
 }

@@ -17,14 +17,14 @@ pub const LONGEST_PLAIN: usize = 20736;
 pub const MEAL_CODES: u8 = 6;
 
 // A string's bytes in the text buffer; both are 0 where it is absent.
-#[derive(Drop)]
+#[derive(Clone, Copy)]
 pub struct Text {
     pub start: usize,
     pub len: usize,
 }
 
 // The zone is in minutes, east of Greenwich unless west is set.
-#[derive(Drop)]
+#[derive(Clone, Copy)]
 pub enum Date {
     Absent,
     Bare {
@@ -43,7 +43,7 @@ pub enum Date {
 }
 
 // Amounts are in millionths.
-#[derive(Drop)]
+#[derive(Clone, Copy)]
 pub enum Dosage {
     Simple {
         amount: u64,
@@ -61,7 +61,7 @@ pub enum Dosage {
 }
 
 // Days of a set are bits: day 1 is bit 0.
-#[derive(Drop)]
+#[derive(Clone, Copy)]
 pub enum Kind {
     None,
     Daily {
@@ -113,14 +113,14 @@ pub enum Kind {
 }
 
 // below: the records below this one, at every depth.
-#[derive(Drop)]
+#[derive(Clone, Copy)]
 pub struct Record {
     pub kind: Kind,
     pub below: usize,
 }
 
 // An absent meal code is 0.
-#[derive(Drop)]
+#[derive(Clone, Copy)]
 pub struct Head {
     pub from: Date,
     pub to: Date,
@@ -168,21 +168,21 @@ pub struct NextReading {
 }
 
 // A table was written, with the length of its plain text, or refused.
-#[derive(Drop)]
+#[derive(Clone, Copy)]
 pub enum Writing {
     Written { length: usize },
     Refused { number: u8, place: usize },
 }
 
 // The length of a table's plain text, or a refusal of the table.
-#[derive(Drop)]
+#[derive(Clone, Copy)]
 pub enum Measuring {
     Measured { length: usize },
     Refused { number: u8, place: usize },
 }
 
 // The head's fields that have text.
-#[derive(Drop)]
+#[derive(Clone, Copy)]
 pub enum HeadText {
     Unit,
     Instructions,

@@ -5,14 +5,14 @@ ghost use Rattle.document.specs.Told.{none_used, one_more};
 use crate::table::RECORDS;
 
 // The use, 1 for a plan and 3 for a prescription, and the room for strings.
-#[derive(Drop)]
+#[derive(Clone, Copy)]
 pub struct Terms {
     pub purpose: u64,
     pub room: usize,
 }
 
 // Records and text bytes. What else a reading notes will stand here.
-#[derive(Drop)]
+#[derive(Clone, Copy)]
 pub struct Used {
     pub records: usize,
     pub text: usize,

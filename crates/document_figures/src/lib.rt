@@ -1,4 +1,6 @@
 // How a number is written: its sign, how long it is, its fraction (document 01, "Numbers").
+#![tactic(auto)]
+
 ghost use Rattle.std.specs.Prelude.{◌≡◌, drop};
 ghost use Rattle.document_figures.specs.Figures.{negative, exponent, carried, all_zero, up};
 

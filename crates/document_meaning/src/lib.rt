@@ -1,1 +1,2 @@
 // What texts mean, over the definitions of document: theorems alone (proofs/).
+#![tactic(auto)]

@@ -1,4 +1,6 @@
 // Numbers by document 01: integers, rounded, and decimals in millionths, with refusals 8 and 9.
+#![tactic(auto)]
+
 ghost use Rattle.std.specs.Prelude.{◌≡◌, ◌≤◌, ◌<◌, ◌^◌, length, drop};
 ghost use Rattle.json_move.specs.Read.{written};
 ghost use Rattle.document_numbers.specs.Number.{figure as figure_of, counted as counted_in, behind_point, padded as padded_in, among, integer_in, amount, decimal_from};
@@ -7,7 +9,7 @@ ghost use Rattle.document_numbers.specs.Point.{Parts};
 use json_scan::byte;
 
 // An integer and whether its fraction was zero; or refusal 8; or refusal 9.
-#[derive(Drop)]
+#[derive(Clone, Copy)]
 pub enum Integer {
     Whole(u64, bool),
     NotCarried,
@@ -15,7 +17,7 @@ pub enum Integer {
 }
 
 // Millionths; or refusal 8; or refusal 9.
-#[derive(Drop)]
+#[derive(Clone, Copy)]
 pub enum Decimal {
     Millionths(u64),
     NotCarried,

@@ -1,4 +1,6 @@
 // What a C program calls (include/posology.h): document 01, "The hospital side calls reading and writing from a C program".
+#![tactic(auto)]
+
 mod laying;
 mod measuring;
 mod reading;

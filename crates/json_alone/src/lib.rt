@@ -1,4 +1,6 @@
 // Whether a text is one object and nothing else (document 01, refusals 2 and 3).
+#![tactic(auto)]
+
 ghost use Rattle.json_grammar.specs.Walk.{one_object};
 ghost use Rattle.json_walk.specs.Turn.{Tells};
 

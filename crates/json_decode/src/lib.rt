@@ -1,4 +1,6 @@
 // Strings of a walked text, decoded as they are gone through. No copy is made.
+#![tactic(auto)]
+
 ghost use Rattle.std.specs.Prelude.{◌≡◌, List, [], ◌∷◌, false, ℕ, ◌≤◌, length, drop};
 ghost use Rattle.json_grammar.specs.Byte.{utf8};
 ghost use Rattle.json_grammar.specs.String.{one_more, gather, point, meant, given as given_by};
@@ -11,35 +13,35 @@ use json_scan::escape::Escape;
 use json_scan::{byte, escape, string};
 
 // Up to four bytes: the first n of the array.
-#[derive(Drop)]
+#[derive(Clone, Copy)]
 pub struct Out {
     pub n: usize,
     pub bytes: [u8; 4],
 }
 
 // A place inside a string, with what may stand there, and the digits gathered of an escape.
-#[derive(Drop)]
+#[derive(Clone, Copy)]
 pub struct Spot {
     pub at: usize,
     pub state: InString,
     pub v: u64,
 }
 
-#[derive(Drop)]
+#[derive(Clone, Copy)]
 pub struct NextBytes {
     pub out: Out,
     pub spot: Spot,
 }
 
 // Bytes that were decoded, of which so many are given out, and the spot behind them.
-#[derive(Drop)]
+#[derive(Clone, Copy)]
 pub struct Cursor {
     pub spot: Spot,
     pub out: Out,
     pub given: usize,
 }
 
-#[derive(Drop)]
+#[derive(Clone, Copy)]
 pub struct NextByte {
     pub some: bool,
     pub byte: u8,
@@ -207,7 +209,7 @@ fn char_gives(state: InString, v: u64, b: u8) -> Out
     }
 }
 
-#[derive(Drop)]
+#[derive(Clone, Copy)]
 struct Stepped {
     goes: bool,
     out: Out,

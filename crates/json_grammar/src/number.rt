@@ -1,7 +1,7 @@
 // A number, byte by byte.
 
 // What may stand next in a number.
-#[derive(Drop)]
+#[derive(Clone, Copy)]
 pub enum InNumber {
     Start,
     Minus, // behind a minus sign
@@ -14,7 +14,7 @@ pub enum InNumber {
     Power, // behind a digit of the exponent
 }
 
-#[derive(Drop)]
+#[derive(Clone, Copy)]
 pub enum DigitStep {
     Onward(InNumber),
     Over,

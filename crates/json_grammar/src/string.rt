@@ -1,7 +1,7 @@
 // The inside of a string, byte by byte.
 
 // What a byte is where a character or the closing quote may stand.
-#[derive(Drop)]
+#[derive(Clone, Copy)]
 pub enum Lead {
     Control,
     Ascii,
@@ -18,7 +18,7 @@ pub enum Lead {
 }
 
 // What a letter behind a backslash stands for.
-#[derive(Drop)]
+#[derive(Clone, Copy)]
 pub enum Letter {
     Means(u8),
     Unicode,
@@ -26,7 +26,7 @@ pub enum Letter {
 }
 
 // What may stand next inside a string.
-#[derive(Drop)]
+#[derive(Clone, Copy)]
 pub enum InString {
     Plain, // a character or the closing quote
     Escape, // the letter behind a backslash
@@ -50,7 +50,7 @@ pub enum InString {
     AfterF4,
 }
 
-#[derive(Drop)]
+#[derive(Clone, Copy)]
 pub enum CharStep {
     Goes(InString),
     Closes,

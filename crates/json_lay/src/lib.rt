@@ -1,4 +1,6 @@
 // Strings of a walked text: their decoded bytes counted, and laid into a lent buffer.
+#![tactic(auto)]
+
 ghost use Rattle.std.specs.Prelude.{◌≡◌, true, [], ◌+◌, ◌-◌, ◌≤◌, length, drop};
 ghost use Rattle.std.proofs.lemmas.List.Edits.{sets};
 ghost use Rattle.std.proofs.Math.Seq.{slice};
@@ -76,7 +78,7 @@ pub fn decoded_length(text: &[u8], quote: usize) -> usize
     end - at + rest_length(text, end)
 }
 
-#[derive(Drop)]
+#[derive(Clone, Copy)]
 pub enum Laid {
     Behind(usize),
     NoRoom,

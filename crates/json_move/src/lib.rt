@@ -1,4 +1,6 @@
 // Moving about a text that was walked: members, elements, and the kinds of values. A value is skipped without a look for faults.
+#![tactic(auto)]
+
 ghost use Rattle.std.specs.Prelude.{◌≡◌, cond, ◌+◌, ◌-◌, ◌<◌, drop};
 ghost use mathlib.Core.List.{tail};
 ghost use Rattle.json_grammar.specs.Byte.{is_numeric};
@@ -9,7 +11,7 @@ ghost use Rattle.json_move.specs.Count.{count as count_of, elements_in};
 use json_scan::byte;
 
 // What a value is.
-#[derive(Drop)]
+#[derive(Clone, Copy)]
 pub enum Kind {
     Object,
     Array,

@@ -1,4 +1,6 @@
 // A number, byte by byte, and where it ends.
+#![tactic(auto)]
+
 ghost use Rattle.std.specs.Prelude.{◌≡◌, true, suc, ◌<◌, length, get_or, drop};
 ghost use Rattle.json_grammar.specs.Number.{first_digit, digit_to, marks, onward, may_end, takes_digits};
 ghost use Rattle.json_grammar.specs.Rows.{look};

@@ -1,4 +1,6 @@
 // Names of a walked text compared as their escapes are undone. No copy is made.
+#![tactic(auto)]
+
 ghost use Rattle.std.specs.Prelude.{◌≡◌, drop};
 ghost use Rattle.json_move.specs.Read.{decoded, same};
 ghost use Rattle.json_decode.specs.Characters.{plain_from};

@@ -8,7 +8,7 @@ use crate::{byte, string};
 use json_grammar::string::Letter;
 
 // What stands behind a backslash: a letter for a byte, or the digits of one unit or of a pair, and how many bytes the escape has.
-#[derive(Drop)]
+#[derive(Clone, Copy)]
 pub enum Escape {
     None,
     Letter(u8),

@@ -1,4 +1,6 @@
 // The walk over a text: whether it begins with an object, and where that ends (document 01, refusals 2 and 3).
+#![tactic(auto)]
+
 ghost use Rattle.std.specs.Prelude.{◌≡◌, [], ◌∷◌, false, suc, ◌<◌, ◌≤◌, length, drop, get_or};
 ghost use Rattle.json_grammar.specs.Byte.{is_blank};
 ghost use Rattle.json_grammar.specs.Part.{word_stop, Stops};
@@ -10,7 +12,7 @@ use json_grammar::part::Part;
 use json_scan::{byte, string};
 
 // The place behind the object; or refusal 2, or refusal 3, with its place.
-#[derive(Drop)]
+#[derive(Clone, Copy)]
 pub enum End {
     At(usize),
     Bad(usize),
@@ -18,7 +20,7 @@ pub enum End {
 }
 
 // What may stand next, blanks aside.
-#[derive(Drop)]
+#[derive(Clone, Copy)]
 pub enum Mode {
     Value,
     FirstElement,
@@ -29,7 +31,7 @@ pub enum Mode {
 }
 
 // The walk at a place: so many brackets are open, and `kinds` has a bit for each, 1 for a brace, the innermost lowest.
-#[derive(Drop)]
+#[derive(Clone, Copy)]
 pub struct Walk {
     pub at: usize,
     pub mode: Mode,
@@ -38,13 +40,13 @@ pub struct Walk {
 }
 
 // The mode behind a string, where one may stand.
-#[derive(Drop)]
+#[derive(Clone, Copy)]
 pub enum Quoted {
     Then(Mode),
     NoString,
 }
 
-#[derive(Drop)]
+#[derive(Clone, Copy)]
 pub enum Turn {
     Go(Walk),
     End(usize),

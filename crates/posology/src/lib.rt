@@ -1,4 +1,6 @@
 // A posology read into a table (document 01).
+#![tactic(auto)]
+
 mod next;
 mod reader;
 

@@ -13,7 +13,7 @@ use read_records::read::HeadRead;
 use read_text::FirstText;
 
 // The answer, and where a posology is taken its head and the words of its records.
-#[derive(Drop)]
+#[derive(Clone, Copy)]
 pub struct NextWords {
     pub answer: NextAnswer,
     pub head: HeadRead,

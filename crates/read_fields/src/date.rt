@@ -8,27 +8,27 @@ use document::dates::is_day;
 use document::table::Date;
 use json_scan::byte::wide;
 
-#[derive(Drop)]
+#[derive(Clone, Copy)]
 pub enum Dated {
     Is(Date),
     Not,
 }
 
-#[derive(Drop)]
+#[derive(Clone, Copy)]
 pub enum Timed {
     Is(u64),
     Not,
 }
 
 // Two digits.
-#[derive(Drop)]
+#[derive(Clone, Copy)]
 pub enum Pair {
     Is(u64),
     Not,
 }
 
 // A calendar day.
-#[derive(Drop)]
+#[derive(Clone, Copy)]
 pub enum Day {
     Is { year: u64, month: u64, day: u64 },
     Not,

@@ -19,34 +19,34 @@ use document_numbers::{Decimal, Integer};
 use json_lay::Laid;
 
 // A number, or the refusal with its place.
-#[derive(Drop)]
+#[derive(Clone, Copy)]
 pub enum Field {
     Is(u64),
     Refused(u8, usize),
 }
 
 // The place of a value of the kind that is asked for, or the refusal.
-#[derive(Drop)]
+#[derive(Clone, Copy)]
 pub enum Found {
     At(usize),
     Refused(u8, usize),
 }
 
 // An integer, with what is taken behind it; or the refusal.
-#[derive(Drop)]
+#[derive(Clone, Copy)]
 pub enum Counted {
     Is(u64, Used),
     Refused(u8, usize),
 }
 
 // A string's quote and its length in decoded bytes, both 0 where it is absent, with what is taken behind it; or the refusal.
-#[derive(Drop)]
+#[derive(Clone, Copy)]
 pub enum Worded {
     Is(usize, usize, Used),
     Refused(u8, usize),
 }
 
-#[derive(Drop)]
+#[derive(Clone, Copy)]
 pub enum DateField {
     Is(Date),
     Refused(u8, usize),

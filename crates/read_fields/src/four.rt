@@ -6,7 +6,7 @@ use crate::field;
 use crate::field::{Field, Found};
 
 // Morning, noon, evening and night; or the refusal.
-#[derive(Drop)]
+#[derive(Clone, Copy)]
 pub enum Fours {
     Is(u64, u64, u64, u64),
     Refused(u8, usize),

@@ -1,4 +1,6 @@
 // The values of an object's members: numbers, strings, dates, days.
+#![tactic(auto)]
+
 pub mod date;
 pub mod days;
 pub mod field;

@@ -1,2 +1,4 @@
 // The head of a posology, read around its detail.
+#![tactic(auto)]
+
 pub mod head;

@@ -1,4 +1,6 @@
 // The names of document 01's members, and where each stands in an object. One walk over an object's members settles them all.
+#![tactic(auto)]
+
 ghost use Rattle.std.specs.Prelude.{◌≡◌, true, length, drop, List, [], ◌∷◌, ◌++◌, ℕ, ◌-◌, ◌%◌, ◌≤◌};
 ghost use Rattle.std.proofs.Math.Seq.{slice};
 ghost use Rattle.json_move.specs.Moving.{first_in, value_of};
@@ -82,7 +84,7 @@ pub const MOA: usize = 32;
 pub const NAMES: usize = 33;
 
 // A name's first seven bytes in one number, a byte 1 before them, and its next seven in another; 0 there for a longer name.
-#[derive(Drop)]
+#[derive(Clone, Copy)]
 pub struct Packed {
     pub head: u64,
     pub tail: u64,
@@ -219,7 +221,7 @@ fn index_of(p: Packed) -> usize
 }
 
 // A member: the number of its name, or NAMES, and where its value stands.
-#[derive(Drop)]
+#[derive(Clone, Copy)]
 struct Member {
     index: usize,
     value: usize,
@@ -264,7 +266,7 @@ fn named(text: &[u8], quote: usize) -> Member
 
 // Where the value of each name stands in an object, 0 where there is none, and how many members it has;
 // or that a name stands twice, and where it does for the second time.
-#[derive(Drop)]
+#[derive(Clone, Copy)]
 pub struct Seen {
     pub twice: bool,
     pub place: usize,
@@ -533,7 +535,7 @@ pub fn settle(text: &[u8], at: usize) -> Seen
 }
 
 // The first member whose name is not known where `known` lists the names that are.
-#[derive(Drop)]
+#[derive(Clone, Copy)]
 pub enum Unknown {
     None,
     At(usize),

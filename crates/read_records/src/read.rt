@@ -3,7 +3,7 @@ use document::table::Date;
 use document::terms::Used;
 
 // A string of the head: its quote in the text, and its bytes in the buffer to come.
-#[derive(Drop)]
+#[derive(Clone, Copy)]
 pub struct Piece {
     pub quote: usize,
     pub start: usize,
@@ -11,7 +11,7 @@ pub struct Piece {
 }
 
 // A head as it is read, or the refusal.
-#[derive(Drop)]
+#[derive(Clone, Copy)]
 pub struct HeadRead {
     pub refused: bool,
     pub number: u8,

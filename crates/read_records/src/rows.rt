@@ -9,7 +9,7 @@ use read_fields::field::{Counted, Field, Found, Worded};
 use read_fields::four::Fours;
 
 // An object was visited, or refused with the place.
-#[derive(Drop)]
+#[derive(Clone, Copy)]
 pub enum Visit {
     Done(Used),
     Refused(u8, usize),

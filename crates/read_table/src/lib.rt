@@ -1,4 +1,6 @@
 // The table made of the words that were read, and the strings laid into the lent buffer: both after acceptance alone.
+#![tactic(auto)]
+
 ghost use Rattle.std.specs.Prelude.{◌≡◌, ◌++◌, ◌-◌, ◌≤◌, replicate};
 ghost use Rattle.document.specs.Table.{no_record};
 ghost use Rattle.read_table.specs.Built.{records_of, piece_cell, head_cells, built, laid_rows, laid_piece, strings_laid};

@@ -1,4 +1,6 @@
 // Which bytes are the text, before anything in it is read (document 01, "Answers by number": 17, 1, 2 and 3, and a run's last paragraph).
+#![tactic(auto)]
+
 ghost use Rattle.std.specs.Prelude.{◌≡◌, take};
 ghost use Rattle.document.specs.Answer.{text_at_most};
 ghost use Rattle.read_text.specs.Texts.{one_text, not_ended, first_text};
@@ -10,14 +12,14 @@ use json_walk::End;
 const LONGEST: usize = 32768;
 
 // A text: one object, or refused.
-#[derive(Drop)]
+#[derive(Clone, Copy)]
 pub enum OneText {
     Walked,
     Refused(u8, usize),
 }
 
 // The first text of a run: it ends at a place, or only blanks remain, or it is refused.
-#[derive(Drop)]
+#[derive(Clone, Copy)]
 pub enum FirstText {
     Ends(usize),
     Blank(usize),

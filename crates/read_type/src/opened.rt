@@ -12,21 +12,21 @@ use read_records::rows::Visit;
 const TWICE: u8 = 6;
 
 // The object's type, 0 where it has none, with what is taken behind it; or the refusal.
-#[derive(Drop)]
+#[derive(Clone, Copy)]
 pub enum Opened {
     Is(u64, Used),
     Refused(u8, usize),
 }
 
 // How many members there are, and where the value of each name stands.
-#[derive(Drop)]
+#[derive(Clone, Copy)]
 pub struct Object {
     pub members: usize,
     pub slots: [usize; NAMES],
 }
 
 // An enum holds no array, so the object stands beside the answer.
-#[derive(Drop)]
+#[derive(Clone, Copy)]
 pub struct Opening {
     pub answer: Opened,
     pub object: Object,

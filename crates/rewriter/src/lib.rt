@@ -1,4 +1,6 @@
 // A text read and put as its plain text, without a table between them.
+#![tactic(auto)]
+
 ghost use Rattle.rewriter.specs.Rewriting.{Rewrites};
 
 use document::table::{LONGEST_PLAIN, TEXT_ROOM, WORDS, Writing};

@@ -8,20 +8,20 @@ use crate::survey::Survey;
 const GREATEST: u64 = 65535;
 
 // Stored, with the length of the plain text.
-#[derive(Drop)]
+#[derive(Clone, Copy)]
 pub enum PutAnswer {
     Stored { length: usize },
     Refused { number: u8, place: usize },
 }
 
-#[derive(Drop)]
+#[derive(Clone, Copy)]
 pub enum RemoveAnswer {
     Removed,
     Refused { number: u8, place: usize },
 }
 
 // The number that stands at a position, 0 past the last.
-#[derive(Drop)]
+#[derive(Clone, Copy)]
 pub enum AtAnswer {
     Standing { number: u64 },
     Refused { number: u8, place: usize },

@@ -11,7 +11,7 @@ use document::table::{Answer, LONGEST_PLAIN, Reading};
 use shelf_bytes::HEAD;
 
 // Where the plain text under a number stands in the area; or the refusal, at place 0.
-#[derive(Drop)]
+#[derive(Clone, Copy)]
 pub enum Found {
     At { from: usize, to: usize },
     Refused { number: u8 },

@@ -1,4 +1,6 @@
 // Some hundred posologies in one lent area (document 02, Wish 2).
+#![tactic(auto)]
+
 mod answers;
 mod fetching;
 mod plain_text;

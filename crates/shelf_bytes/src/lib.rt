@@ -1,4 +1,6 @@
 // The bytes of a shelf (document 02, Wish 2), apart from what its texts say.
+#![tactic(auto)]
+
 mod gaps;
 mod laying;
 mod marks;

@@ -1,5 +1,7 @@
 // Standard input is posologies by name, a line each, an empty line, and a run of posologies: each named one's plain text is printed, or its refusal;
 // the run is written and read back.
+#![tactic(auto)]
+
 mod named;
 mod runs;
 

@@ -9,7 +9,7 @@ const PLAN: u64 = 1;
 const POSOLOGIES: usize = 64;
 
 // How many were read and written, where the run's next text begins, and the bytes written.
-#[derive(Drop)]
+#[derive(Clone, Copy)]
 struct Going {
     count: usize,
     at: usize,

@@ -1,4 +1,6 @@
 // A record made of its six words: tag, records below, four values (the way back of words).
+#![tactic(auto)]
+
 ghost use Rattle.std.specs.Prelude.{◌≡◌, ℕ, ◌≤◌, ◌<◌};
 ghost use Rattle.document.specs.Table.{no_record};
 ghost use Rattle.table_kinds.specs.Kinds.{kind_of, record_at, at_most};

@@ -1,4 +1,6 @@
 // A record's words among those of a table: its tag, the records below it and four values, read and stored.
+#![tactic(auto)]
+
 ghost use Rattle.std.specs.Prelude.{◌≡◌, ◌+◌, min, get_or};
 ghost use Rattle.document.specs.Words.{words as words_of};
 ghost use Rattle.table_rows.specs.Standing.{tag_at, below_at, a_at, b_at, c_at, d_at, Tells};

@@ -1,4 +1,6 @@
 // The text of a record or of a head field: that part of the lent text buffer itself (document 01, "What the part does").
+#![tactic(auto)]
+
 ghost use Rattle.std.specs.Prelude.{◌≡◌, ◌+◌};
 ghost use Rattle.document.specs.Write.{lent, record_text, head_text, head_field};
 ghost use Rattle.table_strings.specs.Handing.{lent_at, record_at, head_at};

@@ -1,4 +1,6 @@
 // A table's records as words: tag, records below, four values (document's Words).
+#![tactic(auto)]
+
 ghost use Rattle.std.specs.Prelude.{◌≡◌, List, ◌≤◌, length};
 ghost use Rattle.document.specs.Words.{words_at_most, dosage_words, kind_words, all_words, rows};
 ghost use Rattle.document.specs.declared.table.Record.{Record};
@@ -8,7 +10,7 @@ ghost use Rattle.table_words.specs.Laying.{Upto, Makes, Unused};
 
 use document::table::{Dosage, Kind, RECORDS, Record, Table, WIDTH, WORDS};
 
-#[derive(Drop)]
+#[derive(Clone, Copy)]
 pub struct Words {
     pub tag: u64,
     pub a: u64,

@@ -2,6 +2,8 @@
 // bytes in hexadecimal. Answers `refused NUMBER PLACE`, `blank LENGTH`, or `ok`, for a run the end, then the number of records, the plain text and the
 // strings in hexadecimal; and says so where the plain text does not read back to itself. A line `length` answers the length of the plain text of
 // what is read, and its bound. A line `walk` or `walkrun` is of the walk alone: `2 PLACE`, `3 PLACE` or `taken`.
+#![tactic(auto)]
+
 use vectors_cases::Case;
 use document::table::{Answer, Measuring, NextAnswer, TEXT_ROOM, Table, Writing};
 use json_walk::End;

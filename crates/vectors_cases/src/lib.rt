@@ -1,10 +1,12 @@
 // A line of outside vectors, character by character: its first word, its first numbers, and the bytes that its last word has in hexadecimal; and
 // what the programs print of an answer.
+#![tactic(auto)]
+
 use json_scan::byte;
 
 // The first word's letters are packed into a number, the last one lowest. Of each word behind it the number is kept, if it is one of the first
 // two, and its bytes until the next begins.
-#[derive(Drop)]
+#[derive(Clone, Copy)]
 pub struct Case {
     pub command: u64,
     pub word: u64,

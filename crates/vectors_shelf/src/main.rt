@@ -1,5 +1,7 @@
 // Runs the shelf over outside vectors on standard input, a line each (document 02, Wish 2): `area LENGTH` or `bytes HEX` begins a shelf; then
 // `put NUMBER USE HEX`, `fetch NUMBER ROOM`, `remove NUMBER`, `at POSITION`, and `show`, which prints the area without its closing zeros.
+#![tactic(auto)]
+
 use vectors_cases::Case;
 use document::table::{Answer, Table, Writing};
 use shelf::{AtAnswer, PutAnswer, RemoveAnswer};
@@ -20,7 +22,7 @@ const REMOVE: u64 = 0x72656D6F7665;
 const AT: u64 = 0x6174;
 
 // A line so far, and the length of the area that the shelf is in.
-#[derive(Drop)]
+#[derive(Clone, Copy)]
 struct State {
     line: Case,
     length: usize,

@@ -1,5 +1,7 @@
 // Bytes put into a lent buffer one behind the other, as far as it reaches:
 // the place behind them is told all the same, so that a text can be measured without room.
+#![tactic(auto)]
+
 ghost use Rattle.std.specs.Prelude.{◌≡◌, List, ◌∷◌, ◌++◌, ℕ, ◌+◌, ◌≤◌, length};
 ghost use Rattle.std.proofs.lemmas.List.Edits.{sets};
 ghost use Rattle.write_bytes.specs.Puts.{Puts};

@@ -1,4 +1,6 @@
 // The numbers and times of a plain text, put into a lent buffer.
+#![tactic(auto)]
+
 ghost use Rattle.std.specs.Prelude.{◌≡◌, not, List, ◌++◌, ℕ, ◌+◌, ◌%◌, ◌<◌, eqb};
 ghost use Rattle.json_grammar.specs.Tree.{no_member};
 ghost use Rattle.document.specs.Spell.{spell, more_members};

@@ -1,4 +1,6 @@
 // The strings of a plain text, put into a lent buffer between quotes.
+#![tactic(auto)]
+
 ghost use Rattle.std.specs.Prelude.{◌≡◌, true, List, ◌∷◌, ℕ, ◌+◌, ◌≤◌, ◌<◌, length, drop};
 ghost use Rattle.document.specs.Spell.{hex_digit, control, escaped, quoted, spell};
 ghost use Rattle.document.specs.Plain.{text_tree};

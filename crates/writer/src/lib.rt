@@ -1,4 +1,6 @@
 // Writing a table (document 01, "Answers by number": 17, 18, 19).
+#![tactic(auto)]
+
 mod measuring;
 
 ghost use Rattle.std.specs.Prelude.{◌≡◌, [], ◌≤◌, length};
