@@ -64,17 +64,17 @@ module _ {ws : List ℕ} where
   unfolding valid_dosage
   dosage_is {i} (simple p) = record {
     value = P.simple (a_at ws i);
-    valid = and_both (lt-ltb 0 (a_at ws i) p.a-least) (le-leb (a_at ws i) 999999999999 p.a-most);
+    valid = and_both (lt-ltb 0 (a_at ws i) p.a_least) (le-leb (a_at ws i) 999999999999 p.a_most);
     at = record { inside = p.inside; tag = p.tag; below = omega arith; a = refl; b = omega arith; c = omega arith; d = omega arith };
   }
   dosage_is {i} (from_to q) = let p = q.row in record {
     value = P.from_to (a_at ws i) (b_at ws i) (c_at ws i) (d_at ws i);
-    valid = and_both (and_both (and_both (lt-ltb (a_at ws i) (b_at ws i) q.rises) (le-leb (b_at ws i) 999999999999 p.b-most)) (and_both (le-leb 1 (c_at ws i) p.c-least) (le-leb (c_at ws i) 7 p.c-most))) (and_both (le-leb 1 (d_at ws i) p.d-least) (le-leb (d_at ws i) 99999 p.d-most));
+    valid = and_both (and_both (and_both (lt-ltb (a_at ws i) (b_at ws i) q.rises) (le-leb (b_at ws i) 999999999999 p.b_most)) (and_both (le-leb 1 (c_at ws i) p.c_least) (le-leb (c_at ws i) 7 p.c_most))) (and_both (le-leb 1 (d_at ws i) p.d_least) (le-leb (d_at ws i) 99999 p.d_most));
     at = record { inside = p.inside; tag = p.tag; below = omega arith; a = refl; b = refl; c = refl; d = refl };
   }
   dosage_is {i} (range q) = let p = q.row in record {
     value = P.range (a_at ws i) (b_at ws i);
-    valid = and_both (and_both (lt-ltb 0 (a_at ws i) p.a-least) (lt-ltb (a_at ws i) (b_at ws i) q.rises)) (le-leb (b_at ws i) 999999999999 p.b-most);
+    valid = and_both (and_both (lt-ltb 0 (a_at ws i) p.a_least) (lt-ltb (a_at ws i) (b_at ws i) q.rises)) (le-leb (b_at ws i) 999999999999 p.b_most);
     at = record { inside = p.inside; tag = p.tag; below = omega arith; a = refl; b = refl; c = omega arith; d = omega arith };
   }
 
@@ -87,7 +87,7 @@ module _ {ws : List ℕ} where
       let n : i + 2 ≡ i + 1 + 1 = omega arith in
       record {
         value = P.at_time d.value (a_at ws i) ∷ r.value;
-        valid = and_both (and_both d.valid (le-leb (a_at ws i) 86399 o.a-most)) r.valid;
+        valid = and_both (and_both d.valid (le-leb (a_at ws i) 86399 o.a_most)) r.valid;
         lies = λ k l. (record { inside = o.inside; tag = o.tag; below = omega arith; a = refl; b = omega arith; c = omega arith; d = omega arith }, (d.at, moved ws (all_words (times_rows r.value k)) n (r.lies k l)));
         count = omega (arith, r.count);
       }
@@ -101,7 +101,7 @@ module _ {ws : List ℕ} where
       let n : i + 2 ≡ i + 1 + 1 = omega arith in
       record {
         value = P.in_segment d.value (a_at ws i) ∷ r.value;
-        valid = and_both (and_both d.valid (and_both (le-leb 1 (a_at ws i) o.a-least) (le-leb (a_at ws i) 4 o.a-most))) r.valid;
+        valid = and_both (and_both d.valid (and_both (le-leb 1 (a_at ws i) o.a_least) (le-leb (a_at ws i) 4 o.a_most))) r.valid;
         lies = λ k l. (record { inside = o.inside; tag = o.tag; below = omega arith; a = refl; b = omega arith; c = omega arith; d = omega arith }, (d.at, moved ws (all_words (segments_rows r.value k)) n (r.lies k l)));
         count = omega (arith, r.count);
       }
@@ -147,7 +147,7 @@ module _ {ws : List ℕ} where
       let n : i + 2 ≡ i + 1 + 1 = omega arith in
       record {
         value = P.interval d.value (a_at ws i) (b_at ws i);
-        valid = and_both (and_both (and_both e d.valid) (and_both (le-leb 1 (a_at ws i) o.a-least) (le-leb (a_at ws i) 99999 o.a-most))) (and_both (le-leb 1 (b_at ws i) o.b-least) (le-leb (b_at ws i) 7 o.b-most));
+        valid = and_both (and_both (and_both e d.valid) (and_both (le-leb 1 (a_at ws i) o.a_least) (le-leb (a_at ws i) 99999 o.a_most))) (and_both (le-leb 1 (b_at ws i) o.b_least) (le-leb (b_at ws i) 7 o.b_most));
         lies = λ k l. (record { inside = o.inside; tag = o.tag; below = omega arith; a = refl; b = refl; c = omega arith; d = omega arith }, (d.at, moved ws (all_words k) n l));
         count = omega arith;
       }
@@ -156,7 +156,7 @@ module _ {ws : List ℕ} where
   unfolding valid_timed timed_rows
   week_days_are {i} ts e p =
       let t = plain_is under_days refl refl refl p.inner in
-      let s = days_are 7 (a_at ws i) p.row.a-least (omega (arith, p.row.a-most)) in
+      let s = days_are 7 (a_at ws i) p.row.a_least (omega (arith, p.row.a_most)) in
       let o = p.row in
       let n : i + (1 + timed_records t.value) ≡ i + 1 + timed_records t.value = omega arith in
       record {
@@ -170,7 +170,7 @@ module _ {ws : List ℕ} where
   unfolding valid_timed timed_rows
   month_days_are {i} ts e p =
       let t = plain_is under_days refl refl refl p.inner in
-      let s = days_are 28 (a_at ws i) p.row.a-least (omega (arith, p.row.a-most)) in
+      let s = days_are 28 (a_at ws i) p.row.a_least (omega (arith, p.row.a_most)) in
       let o = p.row in
       let n : i + (1 + timed_records t.value) ≡ i + 1 + timed_records t.value = omega arith in
       record {

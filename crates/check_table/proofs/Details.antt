@@ -46,8 +46,8 @@ module _ {ws buffer : List ℕ} where
   object_inside (posology r d n) = r.inside
 
   pub object_few : {left i text u : ℕ} → ObjectAt ws buffer left i text u → below_at ws i ≤ 63
-  object_few (pause r e) = omega (arith, r.below-most)
-  object_few (posology r d n) = r.below-most
+  object_few (pause r e) = omega (arith, r.below_most)
+  object_few (posology r d n) = r.below_most
 
   only_still : {left i text u : ℕ} → StillAt ws i → DetailAt ws buffer left i text u → u ≡ text
   only_still s (still p e) = e

@@ -90,7 +90,7 @@ readable_laid purpose t buffer n r =
     let rs = detail_rows p.po 0 [] in
     let lies : Lies (rows (all_words (table_of p).records)) 0 (all_words rs) = subst (λ u. Lies (rows (all_words u.records)) 0 (all_words rs)) s.table s.lies in
     subst (λ u. HeadRight u.head purpose × LaidAt (rows (all_words u.records)) buffer u.head u.count u.text) (sym s.table)
-    (head_right purpose p parts, laid_of purpose p parts buffer s.behind s.fits s.few s.strings-first lies)
+    (head_right purpose p parts, laid_of purpose p parts buffer s.behind s.fits s.few s.strings_first lies)
 
 pub words_laid : {purpose count text : ℕ} {h : Head} {ws buffer : List ℕ} → ReadableWords purpose h count text ws buffer
     → HeadRight h purpose × LaidAt ws buffer h count text

@@ -50,7 +50,7 @@ readable_stands purpose t buffer n h =
       read = s.read;
       fits = s.fits;
       behind = drop (length (strings p)) buffer;
-      strings_first = sym (ap (λ x. x ++ drop (length (strings p)) buffer) (sym s.strings-first) ∙ take-append-drop (length (strings p)) buffer);
+      strings_first = sym (ap (λ x. x ++ drop (length (strings p)) buffer) (sym s.strings_first) ∙ take-append-drop (length (strings p)) buffer);
       lies = front_lies (rows (all_words t.records)) 0 (all_words rs) (all_words rest) (subst (λ x. Lies (rows (all_words t.records)) 0 x) (ap (λ u. all_words u.records) (sym s.table) ∙ ap all_words (records_of_lem p few) ∙ all_append rs rest) all);
       few = few;
     }

@@ -34,7 +34,7 @@ laid_puts {before} {after} {n} bytes rest h g e f =
     let z : 0 + length bytes ≡ length bytes = omega arith in
     record {
       bytes = bytes;
-      in_front_lem = refl;
+      in_front = refl;
       place = λ _. omega (arith, up_to_lem (0 + length bytes));
       laid = λ _ _. f ∙ sym (sets-eq bytes before 0 (omega arith) ∙ ap (λ (k : ℕ). bytes ++ drop k before) z);
     }

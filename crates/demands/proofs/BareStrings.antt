@@ -87,7 +87,7 @@ record SameString (x r s : List ℕ) : Type 0 where
 
 one_more : {b d : ℕ} {x r s : List ℕ} → d ≡ b → SameString x r s → SameString (b ∷ x) r (d ∷ s)
 one_more {b} {s = s} q i =
-    record { front = b ∷ i.front; rest = i.rest; was = ap (λ y. b ∷ y) i.was; is = ap (λ m. m ∷ s) q ∙ ap (λ y. b ∷ y) i.is; same = i.same; after_quote = i.after-quote }
+    record { front = b ∷ i.front; rest = i.rest; was = ap (λ y. b ∷ y) i.was; is = ap (λ m. m ∷ s) q ∙ ap (λ y. b ∷ y) i.is; same = i.same; after_quote = i.after_quote }
 
 from_same : {c : InString} {x r : List ℕ} → From c x r → (s : List ℕ) → kept c x ≡ kept c s → unparted c s ≡ true → SameString x r s
 from_same (shuts {c = c} {b = b} {r = r} e) [] h w =
@@ -120,7 +120,7 @@ again : {cs x r s : List ℕ} → SameString x r s → (w : List ℕ) × (x ≡ 
     → (q : List ℕ) × Chars cs s q × (bare r ≡ bare q) × (whole_after 34 q ≡ true)
 again {cs} {r = r} k o =
     let e : o.0 ≡ k.front = append_cancel_right o.0 k.front r (sym o.1 ∙ k.was) in
-    (k.rest, subst (λ (y : List ℕ). Chars cs y k.rest) (ap (λ y. y ++ k.rest) e ∙ sym k.is) (o.2 k.rest), k.same, k.after-quote)
+    (k.rest, subst (λ (y : List ℕ). Chars cs y k.rest) (ap (λ y. y ++ k.rest) e ∙ sym k.is) (o.2 k.rest), k.same, k.after_quote)
 
 pub chars_same : {cs x r : List ℕ} → Chars cs x r → (s : List ℕ) → bare_quoted x ≡ bare_quoted s → whole_quoted s ≡ true
     → (q : List ℕ) × Chars cs s q × (bare r ≡ bare q) × (whole_after 34 q ≡ true)

@@ -12,7 +12,7 @@ use Rattle.document.specs.Plain.{plain}
 use Rattle.document.specs.Valid.{is_use}
 use Rattle.document.specs.declared.terms.Terms.{Terms}
 use Rattle.document_meaning.proofs.PlainTexts.{reordered_plain_next, plain_short, plain_place, plain_spells}
-use Rattle.demands.specs.Runs.{plain_texts, posologies, read_all, endings, AllValid, no_posology, next_posology, RunOf, only_blanks_lem, Reorders}
+use Rattle.demands.specs.Runs.{plain_texts, posologies, read_all, endings, AllValid, no_posology, next_posology, RunOf, only_blanks, Reorders}
 use Rattle.demands.proofs.WholeRuns.{TakesFirst, run_read, text_ends}
 
 pub takes_reordered : (terms : Terms) → TakesFirst Reorders terms
@@ -20,7 +20,7 @@ takes_reordered terms s r t p v f o l near = reordered_plain_next terms p v f o.
 
 pub texts_run : (terms : Terms) (from : ℕ) {ps : List Posology} → AllValid terms ps → RunOf Reorders from (plain_texts ps) (endings from ps)
 unfolding plain_texts endings
-texts_run terms from no_posology = only_blanks_lem here
+texts_run terms from no_posology = only_blanks here
 texts_run terms from (next_posology {p = p} {ps = ps} v f g w) =
     let s = plain_spells terms.purpose p (plain_texts ps) v.1 in
     text_ends (plain_place p (plain_texts ps)) (s.0, s.2, s.3) s.4 (plain_short terms.purpose p (plain_texts ps) v.1 f) (texts_run terms (from + length (plain p)) w)

@@ -51,8 +51,8 @@ module _ (terms : Terms) (run : List ℕ) (n : ℕ) where
   next_refused_17 = (λ e. next_by_17 (next_refused_by terms run e), λ h. rw h.1 (G.no_use_next terms run h.0))
 
   -- "A run of nothing but blanks, of any length and also of none, gets the answer that only blanks remain, after 17."
-  pub only_blanks_lem : (read_next terms run ≡ blank_to n) ↔ ((is_use terms.purpose ≡ true) × Blanks run [] × (n ≡ length run))
-  only_blanks_lem = (λ e. blank_by terms run e, λ h. G.only_blanks_lem terms run h.0 h.1 ∙ rw h.2)
+  pub only_blanks : (read_next terms run ≡ blank_to n) ↔ ((is_use terms.purpose ≡ true) × Blanks run [] × (n ≡ length run))
+  only_blanks = (λ e. blank_by terms run e, λ h. G.only_blanks terms run h.0 h.1 ∙ rw h.2)
 
   -- "Otherwise a run takes the shortest beginning, leading blanks included, that is such a text; what follows isn't looked at. Places count from
   -- the run's start. If none ends in the first 32,768 bytes, 2 or 3 is given if met there, else 1 when the run is longer, else 2 at the length."

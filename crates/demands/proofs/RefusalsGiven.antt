@@ -54,9 +54,9 @@ module _ (terms : Terms) (run : List ℕ) where
     unfolding read_next
     begun = rw u
 
-    pub only_blanks_lem : Blanks run [] → read_next terms run ≡ blank_to (length run)
+    pub only_blanks : Blanks run [] → read_next terms run ≡ blank_to (length run)
     unfolding blanked
-    only_blanks_lem h = begun ∙ ap (next_begun terms run) (over_blanks h)
+    only_blanks h = begun ∙ ap (next_begun terms run) (over_blanks h)
 
     module _ (some : Blanks run [] → ⊥) where
       walked_next : read_next terms run ≡ next_walked terms run (first_object run)

@@ -37,7 +37,7 @@ respaced_next terms run run' p e same w h =
     let here : drop e run ≡ k.rest = ap (λ n. drop n run) (sym k.ends) ∙ behind_leading j.0 j.1 in (
       place_in run' i.rest,
       record {
-        taken = λ near. taken_next terms run' i.tree i.rest p v.state k.for-use i.leads shallow near v.is;
+        taken = λ near. taken_next terms run' i.tree i.rest p v.state k.for_use i.leads shallow near v.is;
         same = ap bare here ∙ i.same ∙ ap bare (sym there);
         unparted = ap whole there ∙ i.unparted;
       },

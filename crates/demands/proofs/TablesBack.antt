@@ -42,7 +42,7 @@ written_and_read purpose t bytes u h =
       posology = p;
       back = λ terms e f. plain_reads terms p (subst (λ n. Valid n p) (sym e) (u, s.valid)) s.fits (omega arith);
       table = s.table;
-      strings_first = sym s.strings-first ∙ ap (λ (m : ℕ). take m bytes) (sym n);
+      strings_first = sym s.strings_first ∙ ap (λ (m : ℕ). take m bytes) (sym n);
     }
 
 -- What was written, read in the room of a buffer that holds the strings.
@@ -63,7 +63,7 @@ read_back purpose t bytes w lent room e f =
       posology = b.posology;
       back = ap (read (terms_of purpose lent)) (b.one room w e) ∙ b.back (terms_of purpose lent) refl fits;
       table = b.table;
-      strings_first = b.strings-first;
+      strings_first = b.strings_first;
     }
 
 -- The text that was written stands first in the buffer.
@@ -98,4 +98,4 @@ promised_back {purpose} {n} {t} {bytes} {before} {after} {lent} {left} a e b f =
     let p = k.posology in
     let m : t.text ≡ length (strings p) = text_of p k.table in
     let y = taken_leaves (read (terms_of purpose lent) (take n after)) p lent (ap (read (terms_of purpose lent)) x.first ∙ k.back) b.answer b.table b.left in
-    (y.0, y.1 ∙ k.table, ap (λ (i : ℕ). take i left) m ∙ y.2 ∙ k.strings-first)
+    (y.0, y.1 ∙ k.table, ap (λ (i : ℕ). take i left) m ∙ y.2 ∙ k.strings_first)

@@ -18,7 +18,7 @@ use Rattle.document.specs.Answer.{ReadNext, taken_to, blank_to, refused_at, next
 use Rattle.document.specs.declared.terms.Terms.{Terms}
 use Rattle.document_meaning.proofs.NextTexts.{behind_next}
 use Rattle.document_meaning.proofs.Spelled.{next_spells, spelled_next}
-use Rattle.demands.specs.Runs.{Ended, ended, posologies, and_then, onward, read_from, AllValid, no_posology, next_posology, RunOf, only_blanks_lem, text_then, Says}
+use Rattle.demands.specs.Runs.{Ended, ended, posologies, and_then, onward, read_from, AllValid, no_posology, next_posology, RunOf, only_blanks, text_then, Says}
 use Rattle.demands.proofs.RefusalCases.{blank_by}
 
 blanks_left : (terms : Terms) {s : List ℕ} → is_use terms.purpose ≡ true → Blanks s [] → read_next terms s ≡ blank_to (length s)
@@ -38,7 +38,7 @@ module _ (Is : Posology → Tree → Type 0) (terms : Terms) (u : is_use terms.p
   pub run_read : (n : ℕ) {from : ℕ} {s : List ℕ} {es : List Ended}
       → RunOf Is from s es → AllValid terms (posologies es) → length s ≤ n → read_from (suc n) terms from s ≡ some es
   unfolding read_from
-  run_read n (only_blanks_lem {from = from} {s = s} b) v h = ap (λ (x : ReadNext). onward from x (λ e. read_from n terms (from + e) (drop e s))) (blanks_left terms u b)
+  run_read n (only_blanks {from = from} {s = s} b) v h = ap (λ (x : ReadNext). onward from x (λ e. read_from n terms (from + e) (drop e s))) (blanks_left terms u b)
   run_read zero (text_then i l near more) v h = absurd (omega (arith, leading_shorter l))
   run_read (suc n) (text_then {from = from} {p = p} {t = t} {s = s} {r = r} i l near more) (next_posology v f g w) h =
       let a = first s r t p v g i l near in
@@ -77,7 +77,7 @@ module _ (terms : Terms) (small : terms.room ≤ greatest_room) where
 
     first_made : (x : ReadNext) → read_next terms s ≡ x → onward from x rest ≡ some es → Made from s es
     first_made (taken_to p e) h g = then_made p e h (rest e) refl g
-    first_made (blank_to n) h g = let a : [] ≡ es = cc g in subst (Made from s) a (no_posology, only_blanks_lem (blank_by terms s h).1)
+    first_made (blank_to n) h g = let a : [] ≡ es = cc g in subst (Made from s) a (no_posology, only_blanks (blank_by terms s h).1)
     first_made (refused_at n place) h g = let z : ◌≡◌ {A = ℕ} 0 1 = cc in absurd (omega arith)
 
   pub run_made : (n from : ℕ) (s : List ℕ) (es : List Ended) → read_from n terms from s ≡ some es → Made from s es

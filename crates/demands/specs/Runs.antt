@@ -80,7 +80,7 @@ pub data AllWithin (most : ℕ) : List Posology → Type 0 where
 
 -- What is left of a run from a place on: for each posology p blanks and a spelling of a tree t with Is p t, together at most 32,768 bytes; behind the last only blanks.
 pub data RunOf (Is : Posology → Tree → Type 0) : ℕ → List ℕ → List Ended → Type 0 where
-  only_blanks_lem : {from : ℕ} {s : List ℕ} → Blanks s [] → RunOf Is from s []
+  only_blanks : {from : ℕ} {s : List ℕ} → Blanks s [] → RunOf Is from s []
   text_then : {from : ℕ} {p : Posology} {t : Tree} {s r : List ℕ} {es : List Ended}
       → Is p t → Leading t s r → place_in s r ≤ text_at_most → RunOf Is (from + place_in s r) r es → RunOf Is from s (ended p (from + place_in s r) ∷ es)
 

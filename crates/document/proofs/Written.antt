@@ -57,11 +57,11 @@ no_exponent f n k h e = digits_hold (λ s. exponent s ≡ false) f n k h (λ d s
 
 behind_digits : (f n : ℕ) (k r : List ℕ) → Short f n → behind_point k ≡ r → behind_point (whole_digits f n k) ≡ r
 unfolding behind_point
-behind_digits f n k r h e = digits_hold (λ s. behind_point s ≡ r) f n k h (λ d s i g. let x = digit d i in rw x.no-point g) e
+behind_digits f n k r h e = digits_hold (λ s. behind_point s ≡ r) f n k h (λ d s i g. let x = digit d i in rw x.no_point g) e
 
 before_digit : (d : ℕ) (k : List ℕ) → d ≤ 9 → before_point ((48 + d) ∷ k) ≡ (48 + d) ∷ before_point k
 unfolding before_point
-before_digit d k h = let x = digit d h in rw x.no-point refl
+before_digit d k h = let x = digit d h in rw x.no_point refl
 
 before_digits : (f n : ℕ) (k : List ℕ) → Short f n → before_point (whole_digits f n k) ≡ whole_digits f n (before_point k)
 unfolding whole_digits

@@ -22,19 +22,19 @@ unfoldable mutual
 
 mutual
   pub data Reordered : Tree → Tree → Type 0 where
-    an_object_lem : {p q : Place} {ms ns : Members} → ReorderedMembers ms ns → Reordered (object p ms) (object q ns)
-    a_list_lem : {p q : Place} {es ds : Elements} → ReorderedElements es ds → Reordered (list p es) (list q ds)
-    a_string_lem : {p q : Place} {cs : List ℕ} → Reordered (string p cs) (string q cs)
-    a_number_lem : {p q : Place} {raw : List ℕ} → Reordered (number p raw) (number q raw)
+    an_object : {p q : Place} {ms ns : Members} → ReorderedMembers ms ns → Reordered (object p ms) (object q ns)
+    a_list : {p q : Place} {es ds : Elements} → ReorderedElements es ds → Reordered (list p es) (list q ds)
+    a_string : {p q : Place} {cs : List ℕ} → Reordered (string p cs) (string q cs)
+    a_number : {p q : Place} {raw : List ℕ} → Reordered (number p raw) (number q raw)
     a_bool : {p q : Place} {b : Bool} → Reordered (bool p b) (bool q b)
-    a_null_lem : {p q : Place} → Reordered (null p) (null q)
+    a_null : {p q : Place} → Reordered (null p) (null q)
 
   pub data ReorderedMembers : Members → Members → Type 0 where
     no_members : ReorderedMembers no_member no_member
-    next_member_lem : {p q : Place} {n : List ℕ} {t u : Tree} {ms ns : Members} → Reordered t u → ReorderedMembers ms ns → ReorderedMembers (member p n t ms) (member q n u ns)
+    next_member : {p q : Place} {n : List ℕ} {t u : Tree} {ms ns : Members} → Reordered t u → ReorderedMembers ms ns → ReorderedMembers (member p n t ms) (member q n u ns)
     swap : {p q p' q' : Place} {n m : List ℕ} {t u : Tree} {ms : Members} → ReorderedMembers (member p n t (member q m u ms)) (member q' m u (member p' n t ms))
     twice : {ms ns os : Members} → ReorderedMembers ms ns → ReorderedMembers ns os → ReorderedMembers ms os
 
   pub data ReorderedElements : Elements → Elements → Type 0 where
-    no_element_lem : ReorderedElements no_element no_element
-    next_element_lem : {t u : Tree} {es ds : Elements} → Reordered t u → ReorderedElements es ds → ReorderedElements (element t es) (element u ds)
+    no_elements : ReorderedElements no_element no_element
+    next_element : {t u : Tree} {es ds : Elements} → Reordered t u → ReorderedElements es ds → ReorderedElements (element t es) (element u ds)

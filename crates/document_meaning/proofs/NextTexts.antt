@@ -120,4 +120,4 @@ reordered_next terms {run} {run'} {r} {r'} {t} {t'} p e a b near o h =
     let same : tree_of run ≡ t = (J.one_leading j.0 a).0 in
     let shallow : depth t' ≤ 20 = subst (λ (n : ℕ). n ≤ 20) (ap depth same ∙ reordered_depth o) j.1 in
     let v = visit_reordered o terms (subst (λ (u : Tree). visit terms u ≡ done p k.state) same k.is) in
-    taken_next terms run' t' r' p v.state k.for-use b shallow near v.is
+    taken_next terms run' t' r' p v.state k.for_use b shallow near v.is

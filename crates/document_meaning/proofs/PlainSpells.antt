@@ -10,7 +10,7 @@ use Rattle.json_grammar.specs.Grammar.{Value, Behind, Follows}
 use Rattle.json_grammar.specs.Grammar as G
 use Rattle.document.specs.Utf8.{is_utf8}
 use Rattle.document.specs.Spell.{quoted, spell, first_member, more_members, first_element, more_elements}
-use Rattle.document.specs.Same.{Reordered, an_object_lem, a_list_lem, a_string_lem, a_number_lem, a_bool, a_null_lem, ReorderedMembers, no_members, next_member_lem, ReorderedElements, no_element_lem, next_element_lem}
+use Rattle.document.specs.Same.{Reordered, an_object, a_list, a_string, a_number, a_bool, a_null, ReorderedMembers, no_members, next_member, ReorderedElements, no_elements, next_element}
 use Rattle.document_meaning.proofs.Numerals.{Ends, Numeral}
 use Rattle.document_meaning.proofs.QuotedChars.{quoted_chars}
 
@@ -60,13 +60,13 @@ mutual
   unfolding spell Spellable
 
   spelled : (t : Tree) (k : List ℕ) → Spellable t → Ends k → Spelled t (spell t k) k
-  spelled (object p ms) k g e = let o = spelled_object ms k g in (object o.0 o.1, o.2, an_object_lem o.3)
+  spelled (object p ms) k g e = let o = spelled_object ms k g in (object o.0 o.1, o.2, an_object o.3)
   spelled (list p es) k g e = spelled_list p es k g
-  spelled (string p cs) k g e = (string (34 ∷ quoted cs k) cs, G.a_string (quoted_chars cs k g), a_string_lem)
-  spelled (number p raw) k g e = (number (raw ++ k) raw, G.a_number (g k e), a_number_lem)
+  spelled (string p cs) k g e = (string (34 ∷ quoted cs k) cs, G.a_string (quoted_chars cs k g), a_string)
+  spelled (number p raw) k g e = (number (raw ++ k) raw, G.a_number (g k e), a_number)
   spelled (bool p true) k g e = (bool (116 ∷ 114 ∷ 117 ∷ 101 ∷ k) true, G.a_true, a_bool)
   spelled (bool p false) k g e = (bool (102 ∷ 97 ∷ 108 ∷ 115 ∷ 101 ∷ k) false, G.a_false, a_bool)
-  spelled (null p) k g e = (null (110 ∷ 117 ∷ 108 ∷ 108 ∷ k), G.a_null, a_null_lem)
+  spelled (null p) k g e = (null (110 ∷ 117 ∷ 108 ∷ 108 ∷ k), G.a_null, a_null)
 
   pub spelled_object : (ms : Members) (k : List ℕ) → SpellableMembers ms → SpelledObject ms (123 ∷ first_member ms k) k
   spelled_object no_member k g = (123 ∷ 125 ∷ k, no_member, G.an_empty_object G.here, no_members)
@@ -74,7 +74,7 @@ mutual
       let v = spelled t (more_members ms k) g.1.0 (member_ends ms k) in
       let m = spelled_following ms k g.1.1 in
       let s = quoted n (58 ∷ spell t (more_members ms k)) in
-      (123 ∷ 34 ∷ s, member (34 ∷ s) n v.0 m.0, G.an_object G.here (G.name (quoted_chars n (58 ∷ spell t (more_members ms k)) g.0) G.here G.here v.1 G.here m.1), next_member_lem v.2 m.2)
+      (123 ∷ 34 ∷ s, member (34 ∷ s) n v.0 m.0, G.an_object G.here (G.name (quoted_chars n (58 ∷ spell t (more_members ms k)) g.0) G.here G.here v.1 G.here m.1), next_member v.2 m.2)
 
   spelled_following : (ms : Members) (k : List ℕ) → SpellableMembers ms → SpelledFollowing ms (more_members ms k) k
   spelled_following no_member k g = (no_member, G.brace, no_members)
@@ -82,18 +82,18 @@ mutual
       let v = spelled t (more_members ms k) g.1.0 (member_ends ms k) in
       let m = spelled_following ms k g.1.1 in
       let s = quoted n (58 ∷ spell t (more_members ms k)) in
-      (member (34 ∷ s) n v.0 m.0, G.next_member G.here (G.name (quoted_chars n (58 ∷ spell t (more_members ms k)) g.0) G.here G.here v.1 G.here m.1), next_member_lem v.2 m.2)
+      (member (34 ∷ s) n v.0 m.0, G.next_member G.here (G.name (quoted_chars n (58 ∷ spell t (more_members ms k)) g.0) G.here G.here v.1 G.here m.1), next_member v.2 m.2)
 
   spelled_list : (p : Place) (es : Elements) (k : List ℕ) → SpellableElements es → Spelled (list p es) (91 ∷ first_element es k) k
-  spelled_list p no_element k g = (list (91 ∷ 93 ∷ k) no_element, G.an_empty_list G.here, a_list_lem no_element_lem)
+  spelled_list p no_element k g = (list (91 ∷ 93 ∷ k) no_element, G.an_empty_list G.here, a_list no_elements)
   spelled_list p (element t es) k g =
       let v = spelled t (more_elements es k) g.0 (element_ends es k) in
       let m = spelled_behind es k g.1 in
-      (list (91 ∷ spell t (more_elements es k)) (element v.0 m.0), G.a_list G.here (G.first v.1 G.here m.1), a_list_lem (next_element_lem v.2 m.2))
+      (list (91 ∷ spell t (more_elements es k)) (element v.0 m.0), G.a_list G.here (G.first v.1 G.here m.1), a_list (next_element v.2 m.2))
 
   spelled_behind : (es : Elements) (k : List ℕ) → SpellableElements es → SpelledBehind es (more_elements es k) k
-  spelled_behind no_element k g = (no_element, G.bracket, no_element_lem)
+  spelled_behind no_element k g = (no_element, G.bracket, no_elements)
   spelled_behind (element t es) k g =
       let v = spelled t (more_elements es k) g.0 (element_ends es k) in
       let m = spelled_behind es k g.1 in
-      (element v.0 m.0, G.next_element G.here (G.first v.1 G.here m.1), next_element_lem v.2 m.2)
+      (element v.0 m.0, G.next_element G.here (G.first v.1 G.here m.1), next_element v.2 m.2)

@@ -13,7 +13,7 @@ use Rattle.json_laws.specs.Leading.{Leading, leading}
 use Rattle.json_laws.proofs.Trees.{leading_text}
 use Rattle.json_laws.proofs.Spells as J
 use Rattle.document.specs.Posology.{Posology}
-use Rattle.document.specs.Same.{Reordered, an_object_lem}
+use Rattle.document.specs.Same.{Reordered, an_object}
 use Rattle.document.specs.Visit.{State, done, visit}
 use Rattle.document.specs.Valid.{Valid, Fits, valid}
 use Rattle.document.specs.Spell.{spell}
@@ -38,7 +38,7 @@ pub plain_leading : (purpose : ℕ) (p : Posology) (k : List ℕ) → valid purp
 unfolding plain_then plain_tree spell
 plain_leading purpose p k v =
     let o = spelled_object (members_of (head_slots p)) k (plain_spellable purpose p v) in
-    (object o.0 o.1, leading G.here o.2, an_object_lem o.3)
+    (object o.0 o.1, leading G.here o.2, an_object o.3)
 
 -- It is short.
 pub plain_short : (purpose : ℕ) (p : Posology) (k : List ℕ) → valid purpose p ≡ true → Fits greatest_room p → place_in (plain_then p k) k ≤ text_at_most

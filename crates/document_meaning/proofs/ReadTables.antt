@@ -21,7 +21,7 @@ Reading purpose t bytes = (text : List ℕ) × (p : Posology) × (read (in_great
 pub readable_read : (purpose : ℕ) (t : Table) (bytes : List ℕ) → is_use purpose ≡ true → readable purpose t bytes ≡ true → Reading purpose t bytes
 readable_read purpose t bytes u h =
     let s = stands_for purpose t bytes h in
-    (plain s.is, s.is, plain_reads (in_greatest_room purpose) s.is (u, s.valid) s.fits s.fits, s.table, s.strings-first)
+    (plain s.is, s.is, plain_reads (in_greatest_room purpose) s.is (u, s.valid) s.fits s.fits, s.table, s.strings_first)
 
 pub read_readable : (purpose : ℕ) (t : Table) (bytes : List ℕ) → Reading purpose t bytes → readable purpose t bytes ≡ true
 read_readable purpose t bytes r =

@@ -320,22 +320,22 @@ mutual
   unfolding value_of
 
   value_alike : {t u : Tree} → Reordered t u → AlikeValue (value_of t) (value_of u)
-  value_alike (S.an_object_lem {p = p} {q = q} h) = record { absent = λ s. refl; read = of_object_alike p q (entries_alike h) }
-  value_alike (S.a_list_lem {p = p} {q = q} h) = record { absent = λ s. refl; read = of_list_alike p q (values_alike h) }
-  value_alike (S.a_string_lem {p = p} {q = q} {cs = cs}) = record { absent = λ s. refl; read = of_string_alike p q cs }
-  value_alike (S.a_number_lem {p = p} {q = q} {raw = raw}) = record { absent = λ s. refl; read = of_number_alike p q raw }
+  value_alike (S.an_object {p = p} {q = q} h) = record { absent = λ s. refl; read = of_object_alike p q (entries_alike h) }
+  value_alike (S.a_list {p = p} {q = q} h) = record { absent = λ s. refl; read = of_list_alike p q (values_alike h) }
+  value_alike (S.a_string {p = p} {q = q} {cs = cs}) = record { absent = λ s. refl; read = of_string_alike p q cs }
+  value_alike (S.a_number {p = p} {q = q} {raw = raw}) = record { absent = λ s. refl; read = of_number_alike p q raw }
   value_alike (S.a_bool {p = p} {q = q} {b = b}) = record { absent = λ s. refl; read = of_bool_alike p q b }
-  value_alike S.a_null_lem = record { absent = λ s. refl; read = λ s l. both_refuse }
+  value_alike S.a_null = record { absent = λ s. refl; read = λ s l. both_refuse }
 
   entries_alike : {ms ns : Members} → ReorderedMembers ms ns → AlikeEntries (entries_of ms) (entries_of ns)
   entries_alike S.no_members = no_entry
-  entries_alike (S.next_member_lem h t) = next_entry (value_alike h) (entries_alike t)
+  entries_alike (S.next_member h t) = next_entry (value_alike h) (entries_alike t)
   entries_alike (S.swap {t = t} {u = u} {ms = ms}) = swap_entry (value_self t) (value_self u) (entries_self ms)
   entries_alike (S.twice s t) = twice_entry (entries_alike s) (entries_alike t)
 
   values_alike : {es ds : Elements} → ReorderedElements es ds → AlikeValues (values_of es) (values_of ds)
-  values_alike S.no_element_lem = no_value
-  values_alike (S.next_element_lem h t) = next_value (value_alike h) (values_alike t)
+  values_alike S.no_elements = no_value
+  values_alike (S.next_element h t) = next_value (value_alike h) (values_alike t)
 
 -- A reordered tree that is taken is taken as the same posology.
 pub visit_reordered : {t u : Tree} → Reordered t u → (terms : Terms) {p : Posology} {l : State} → visit terms t ≡ done p l → TakenAlike (visit terms u) p l

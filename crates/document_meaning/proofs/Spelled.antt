@@ -30,7 +30,7 @@ accepted_spells terms text p e =
     let t = read_taken terms text p e in
     let j = J.sound t.walked in
     let m = taken_means (tree_of text) (text_utf8 j.0) terms p t.state t.is in
-    (t.short, (t.for-use, m.1), (tree_of text, j.0, j.3, m.0), m.2)
+    (t.short, (t.for_use, m.1), (tree_of text, j.0, j.3, m.0), m.2)
 
 pub spelled_accepted : (terms : Terms) (text : List ℕ) (p : Posology) → length text ≤ text_at_most → Valid terms.purpose p → Spells text p → Fits terms.room p → read terms text ≡ taken p
 spelled_accepted terms text p short v s f =
@@ -45,7 +45,7 @@ next_spells terms run p e h =
     let k = next_taken terms run p e h in
     let j = J.run_sound k.walked in
     let m = taken_means (tree_of run) (leading_utf8 j.0) terms p k.state k.is in
-    ((k.for-use, m.1), m.2, tree_of run, k.rest, j.0, j.1, m.0, k.ends, k.near)
+    ((k.for_use, m.1), m.2, tree_of run, k.rest, j.0, j.1, m.0, k.ends, k.near)
 
 pub spelled_next : (terms : Terms) {run r : List ℕ} {t : Tree} (p : Posology) (e : ℕ)
     → Valid terms.purpose p → Fits terms.room p → Leading t run r → depth t ≤ open_at_most → Means t p → place_in run r ≡ e → e ≤ text_at_most → read_next terms run ≡ taken_to p e
@@ -65,4 +65,4 @@ reordered_taken terms {s} {s'} {t} {t'} p a b r h e =
     let shallow : depth t' ≤ 20 = subst (λ (n : ℕ). n ≤ 20) (ap depth same ∙ reordered_depth r) j.3 in
     let c = J.complete b shallow in
     let v = visit_reordered r terms (subst (λ (u : Tree). visit terms u ≡ done p k.state) same k.is) in
-    taken_read terms s' p (record { for_use = k.for-use; short = h; rest = c.0; walked = c.3; state = v.state; is = ap (λ (u : Tree). visit terms u) c.4 ∙ v.is })
+    taken_read terms s' p (record { for_use = k.for_use; short = h; rest = c.0; walked = c.3; state = v.state; is = ap (λ (u : Tree). visit terms u) c.4 ∙ v.is })

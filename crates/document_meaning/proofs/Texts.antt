@@ -52,7 +52,7 @@ read_taken terms text p h = go (is_use terms.purpose) (leb (length text) text_at
 pub taken_read : (terms : Terms) (text : List ℕ) (p : Posology) → Taken terms text p → read terms text ≡ taken p
 unfolding read
 taken_read terms text p t =
-    choose_true (is_use terms.purpose) _ _ t.for-use
+    choose_true (is_use terms.purpose) _ _ t.for_use
     ∙ choose_true (leb (length text) text_at_most) _ _ (le-leb (length text) text_at_most t.short)
     ∙ ap (λ (w : Walked). after_walk terms text w) t.walked
     ∙ ap (λ (o : Outcome Posology). visited text o) t.is

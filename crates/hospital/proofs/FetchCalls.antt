@@ -37,7 +37,7 @@ plain_back : (key : ℕ) (terms : Terms) (p q : Posology) → good_entry (entry 
 plain_back key terms p q i e =
     let g = good_parts (entry key q) i in
     one_posology (plain q) q p
-    (accepted_spells (in_greatest_room both_uses) (plain q) q (plain_reads (in_greatest_room both_uses) q (refl, g.is-valid) g.fits g.fits)).2
+    (accepted_spells (in_greatest_room both_uses) (plain q) q (plain_reads (in_greatest_room both_uses) q (refl, g.is_valid) g.fits g.fits)).2
     (accepted_spells terms (plain q) p e).2
 
 -- What reading tells of a text, fetching tells of it, if it is the plain text of what was taken.
@@ -88,7 +88,7 @@ module _ (key : ℕ) (area strings table : List ℕ) where
     told_alike = told_fetched text x λ p t.
         ap length there.text
         ∙ ap (λ (q : Posology). length (plain q))
-        (plain_back key (in_room both_uses (length strings)) p there.posology there.is-good (sym as_plain ∙ t))
+        (plain_back key (in_room both_uses (length strings)) p there.posology there.is_good (sym as_plain ∙ t))
 
     pub found_read : {n place : ℕ} {strings' table' : List ℕ} → ReadsInto both_uses text strings table n place strings' table'
         → FetchesInto key area strings table n place strings' table'
@@ -96,6 +96,6 @@ module _ (key : ℕ) (area strings table : List ℕ) where
         record {
           number = r.number ∙ ap (λ (t : Told). t.number) told_alike ∙ ap (λ (y : Read). (told_answer (fetch_answer y)).number) same_call;
           place = r.place ∙ ap (λ (t : Told). t.place) told_alike ∙ ap (λ (y : Read). (told_answer (fetch_answer y)).place) same_call;
-          strings_left = r.strings-left ∙ ap (λ (y : Read). buffer_after y strings) same_call;
-          table_left = r.area-left ∙ ap (λ (y : Read). area_after y table) same_call;
+          strings_left = r.strings_left ∙ ap (λ (y : Read). buffer_after y strings) same_call;
+          table_left = r.area_left ∙ ap (λ (y : Read). area_after y table) same_call;
         }

@@ -20,32 +20,32 @@ use Rattle.hospital.proofs.WrittenRead.{area_back, calls_back}
 pub determined_posology_read : {purpose n n' at at' : ℕ} {text strings area strings₁ strings₂ area₁ area₂ : List ℕ}
     → ReadsInto purpose text strings area n at strings₁ area₁ → ReadsInto purpose text strings area n' at' strings₂ area₂
     → (n ≡ n') × (at ≡ at') × (strings₁ ≡ strings₂) × (area₁ ≡ area₂)
-determined_posology_read a b = (a.number ∙ sym b.number, a.place ∙ sym b.place, a.strings-left ∙ sym b.strings-left, a.area-left ∙ sym b.area-left)
+determined_posology_read a b = (a.number ∙ sym b.number, a.place ∙ sym b.place, a.strings_left ∙ sym b.strings_left, a.area_left ∙ sym b.area_left)
 
 pub determined_posology_next : {purpose n n' at at' : ℕ} {run strings area strings₁ strings₂ area₁ area₂ : List ℕ}
     → ReadsNextInto purpose run strings area n at strings₁ area₁ → ReadsNextInto purpose run strings area n' at' strings₂ area₂
     → (n ≡ n') × (at ≡ at') × (strings₁ ≡ strings₂) × (area₁ ≡ area₂)
-determined_posology_next a b = (a.number ∙ sym b.number, a.place ∙ sym b.place, a.strings-left ∙ sym b.strings-left, a.area-left ∙ sym b.area-left)
+determined_posology_next a b = (a.number ∙ sym b.number, a.place ∙ sym b.place, a.strings_left ∙ sym b.strings_left, a.area_left ∙ sym b.area_left)
 
 pub determined_posology_write : {purpose n n' at at' : ℕ} {area strings out out₁ out₂ : List ℕ}
     → WritesFrom purpose area strings out n at out₁ → WritesFrom purpose area strings out n' at' out₂
     → (n ≡ n') × (at ≡ at') × (out₁ ≡ out₂)
-determined_posology_write a b = (a.number ∙ sym b.number, a.place ∙ sym b.place, a.out-left ∙ sym b.out-left)
+determined_posology_write a b = (a.number ∙ sym b.number, a.place ∙ sym b.place, a.out_left ∙ sym b.out_left)
 
 -- "a refusal leaves the area too as lent": where the number is not 0, each lent byte is as it was.
 pub refused_call_leaves_all : {purpose n at : ℕ} {text strings area strings' area' : List ℕ} → ReadsInto purpose text strings area n at strings' area' → (n ≡ 0 → ⊥)
     → (strings' ≡ strings) × (area' ≡ area)
 refused_call_leaves_all {purpose} {text = text} {strings = strings} {area = area} a h =
-    refused_leaves (called purpose text (length strings) (length area)) text strings area a.number a.strings-left a.area-left h
+    refused_leaves (called purpose text (length strings) (length area)) text strings area a.number a.strings_left a.area_left h
 
 pub refused_next_call_leaves_all : {purpose n at : ℕ} {run strings area strings' area' : List ℕ} → ReadsNextInto purpose run strings area n at strings' area' → (n ≡ 0 → ⊥)
     → (strings' ≡ strings) × (area' ≡ area)
 refused_next_call_leaves_all {purpose} {run = run} {strings = strings} {area = area} a h =
-    next_refused_leaves (called_next purpose run (length strings) (length area)) strings area a.number a.strings-left a.area-left h
+    next_refused_leaves (called_next purpose run (length strings) (length area)) strings area a.number a.strings_left a.area_left h
 
 pub refused_write_call_leaves_all : {purpose n at : ℕ} {area strings out out' : List ℕ} → WritesFrom purpose area strings out n at out' → (n ≡ 0 → ⊥) → out' ≡ out
 refused_write_call_leaves_all {purpose} {area = area} {strings = strings} {out = out} a h =
-    write_refused_leaves (called_write purpose area strings (length out)) out a.number a.out-left h
+    write_refused_leaves (called_write purpose area strings (length out)) out a.number a.out_left h
 
 -- posology_read took a posology: posology_write, lent what it left, writes the posology's plain text, or asks for the room that it needs.
 pub read_then_written : (purpose : ℕ) (text strings area out : List ℕ) (p : Posology) → called purpose text (length strings) (length area) ≡ taken p
@@ -64,7 +64,7 @@ pub written_then_read : (purpose : ℕ) (area strings : List ℕ) (room : ℕ) (
     × (take (table_in area).text (buffer_after (taken p) strings') ≡ take (table_in area).text strings)
 written_then_read purpose area strings room w strings' area' h n f =
     let b = area_back purpose area strings room w strings' area' h n f in
-    (b.posology, b.back, b.same_area, b.same-strings)
+    (b.posology, b.back, b.same_area, b.same_strings)
 
 -- The same of what the two calls promise: posology_write returned 0 and a place.
 pub written_then_read_calls : {purpose n at length' : ℕ} {area strings out out' strings₁ strings₂ area₁ area₂ : List ℕ}

@@ -42,7 +42,7 @@ module _ {purpose l : ℕ} {area strings : List ℕ} (a : MeasuresFrom purpose a
         let e = sym called ∙ length_exceeds purpose (table_in area) strings l (measured_area purpose area strings a).is (length out) f in (
           b.number ∙ ap (λ (x : Write). (told (write_values x)).number) e,
           b.place ∙ ap (λ (x : Write). (told (write_values x)).place) e,
-          b.out-left ∙ ap (λ (x : Write). buffer_after x out) e,
+          b.out_left ∙ ap (λ (x : Write). buffer_after x out) e,
         )
 
 -- What has no length is refused as posology_write refuses it, with any buffer.
@@ -52,5 +52,5 @@ length_refused_alike {purpose} {area = area} {strings = strings} {out = out} a h
     let t = refused_told purpose area strings (λ e. h (a.number ∙ e)) (length out) in
     let e = b.number ∙ ap (λ (x : Told). x.number) t ∙ sym a.number in
     let call = called_write purpose area strings (length out) in
-    let left = write_refused_leaves call out b.number b.out-left (λ z. h (sym e ∙ z)) in
+    let left = write_refused_leaves call out b.number b.out_left (λ z. h (sym e ∙ z)) in
     (e, b.place ∙ ap (λ (x : Told). x.place) t ∙ sym a.place, left)

@@ -56,7 +56,7 @@ area_back purpose area bytes room w lent lent_area h n f =
       posology = p;
       back = sym (sized purpose w lent lent_area n) ∙ k.back;
       same_area = ap area_of k.table ∙ area_lies area a.0;
-      same_strings = take_at (strings p) (drop (length (strings p)) lent) (table_in area).text (sym m) ∙ k.strings-first;
+      same_strings = take_at (strings p) (drop (length (strings p)) lent) (table_in area).text (sym m) ∙ k.strings_first;
     }
 
 -- A refusal of the writer has a number above 0.
@@ -99,11 +99,11 @@ pub calls_back : {purpose n place at : ℕ} {area bytes out out' lent lent_area 
     → (n ≡ 0) × (place ≡ at) × (left_area ≡ area) × (take (table_in area).text left ≡ take (table_in area).text bytes)
 calls_back {purpose} {at = at} {area = area} {bytes = bytes} {out = out} {out' = out'} {lent = lent} {lent_area = lent_area} a b n f =
     let c = called_write purpose area bytes (length out) in
-    let x = text_first c out (told_written c (numbered purpose area bytes (length out)) a.number a.place) a.out-left in
+    let x = text_first c out (told_written c (numbered purpose area bytes (length out)) a.number a.place) a.out_left in
     let k = area_back purpose area bytes (length out) x.text lent lent_area x.is n f in
     let e : called purpose (take at out') (length lent) (length lent_area) ≡ taken k.posology = ap (λ (s : List ℕ). called purpose s (length lent) (length lent_area)) x.first ∙ k.back in (
       b.number ∙ ap (λ (y : Read). (told_read (take at out') y).number) e,
       b.place ∙ ap (λ (y : Read). (told_read (take at out') y).place) e ∙ ap length x.first ∙ sym x.long,
-      b.area-left ∙ ap (λ (y : Read). area_after y lent_area) e ∙ k.same_area,
-      ap (take (table_in area).text) (b.strings-left ∙ ap (λ (y : Read). buffer_after y lent) e) ∙ k.same-strings,
+      b.area_left ∙ ap (λ (y : Read). area_after y lent_area) e ∙ k.same_area,
+      ap (take (table_in area).text) (b.strings_left ∙ ap (λ (y : Read). buffer_after y lent) e) ∙ k.same_strings,
     )

@@ -92,7 +92,7 @@ found_there a es number h i st =
     let fs = w.ahead in
     let gs = w.behind in
     let k : Holds a (fs ++ (e ∷ gs)) = rw (sym w.is) h in
-    let p = place_there fs e gs (good_once (fs ++ (e ∷ gs)) k.is-good) in
+    let p = place_there fs e gs (good_once (fs ++ (e ∷ gs)) k.is_good) in
     let place : place_under number es ≡ used fs = ap (place_under number) w.is ∙ p.0 in
     let bytes : size_under number es ≡ size e = ap (size_under number) w.is ∙ p.1 in
     let u = used_both fs (e ∷ gs) in
@@ -111,7 +111,7 @@ found_there a es number h i st =
       reads = λ room.
           ap (λ (o : Option (List Entry)). fetch_in o number room) (holds_back a es h)
           ∙ ap (λ (b : Bool). choose b (λ _. fetch_under (under number es) room) (λ _. R.refused 21 0)) i
-          ∙ ap (λ (o : Option Posology). fetch_under o room) w.under-it;
+          ∙ ap (λ (o : Option Posology). fetch_under o room) w.under_it;
     }
 
 pub found_text : (a : List ℕ) (number from to : ℕ) → found a number ≡ F.At from to → FoundText a number from to

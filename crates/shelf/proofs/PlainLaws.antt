@@ -34,8 +34,8 @@ too_long_for_plain text l = never_true (is_plain text) (go (plain_of text) refl)
     go none e h = let z : ◌≡◌ {A = ℕ} 0 1 = cc in omega arith
     go (some p) e h =
         let i = plain_of_text text p e in
-        let s = plain_within both_uses p i.is-valid i.fits in
-        let n = ap length i.text-is in
+        let s = plain_within both_uses p i.is_valid i.fits in
+        let n = ap length i.text_is in
         omega arith
 
 plain_of_read_lem : (text : List ℕ) (r : Read) → read (in_greatest_room both_uses) text ≡ r → is_plain text ≡ is_given (if_plain text r)

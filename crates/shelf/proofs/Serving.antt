@@ -138,7 +138,7 @@ module _ (a after : List ℕ) (es : List Entry) (number purpose : ℕ) (text : L
       let o = on_shelf c a es h ∙ ap (laid_again (length a)) (on_list_put (length a) es number purpose text p i s k e) in
       let good = read_good number purpose text p i k in
       let g = good_parts it good in
-      let short = plain_within both_uses p g.is-valid g.fits in
+      let short = plain_within both_uses p g.is_valid g.fits in
       let b = has_room (used es) (plain p) a in
       record {
         result = st.answer ∙ cond_true b (stored (length (plain p))) (refused 24 0) e ∙ sym (ap (λ (x : Outcome (List ℕ)). x.answer) o);

@@ -154,7 +154,7 @@ module _ {a : List ℕ} {number position : ℕ} {s : Survey} (h : Shelved a numb
       let w = stands_there number h.entries (is_there d) in
       let e = entry number w.it in
       let k : Holds a (w.ahead ++ (e ∷ w.behind)) = rw (sym w.is) h.holds in
-      let p = place_there w.ahead e w.behind (good_once (w.ahead ++ (e ∷ w.behind)) k.is-good) in
+      let p = place_there w.ahead e w.behind (good_once (w.ahead ++ (e ∷ w.behind)) k.is_good) in
       record {
         ahead = w.ahead;
         it = e;

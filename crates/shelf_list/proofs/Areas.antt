@@ -125,7 +125,7 @@ laid_more a p fs h l =
     record {
       zeros = l.zeros;
       bytes = ap (record_then (entry (number_at a 2) p)) l.bytes ∙ h.bytes;
-      each = and_both h.is-good l.each;
+      each = and_both h.is_good l.each;
     }
 
 -- The records from here on, where those behind the first are known to lie there.
@@ -193,4 +193,4 @@ area_of_list a es e = go (leb (length a) area_at_most) refl e
     go false l h = never (cc)
 
 pub holds_back : (a : List ℕ) (es : List Entry) → Holds a es → entries_in a ≡ some es
-holds_back a es s = ap entries_in (sym s.bytes) ∙ laid_back es (length a) s.is-good s.fits s.small
+holds_back a es s = ap entries_in (sym s.bytes) ∙ laid_back es (length a) s.is_good s.fits s.small

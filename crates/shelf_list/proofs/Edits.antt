@@ -50,7 +50,7 @@ module _ (a : List ℕ) (es : List Entry) (h : Holds a es) where
   split = sym (records_then_lem es (replicate (length a - used es) 0)) ∙ h.bytes
 
   own_length : length (records_then es []) ≡ used es
-  own_length = let l = records_length es [] (good_each es h.is-good) in omega arith
+  own_length = let l = records_length es [] (good_each es h.is_good) in omega arith
 
   pub front : take (used es) a ≡ records_then es []
   front = ap (take (used es)) (sym split) ∙ take_at (records_then es []) (replicate (length a - used es) 0) (used es) own_length
@@ -116,7 +116,7 @@ behind a fs e gs = records_then gs (zeros (length a - used (fs ++ (e ∷ gs))))
 -- The area of a list with e in it: what stands in front of its record, and what behind it.
 module _ (a : List ℕ) (fs : List Entry) (e : Entry) (gs : List Entry) (h : Holds a (fs ++ (e ∷ gs))) where
   each_one : every good_entry (fs ++ (e ∷ gs)) ≡ true
-  each_one = good_each (fs ++ (e ∷ gs)) h.is-good
+  each_one = good_each (fs ++ (e ∷ gs)) h.is_good
 
   parted : records_then fs [] ++ (record_then e [] ++ (behind a fs e gs)) ≡ a
   parted =
@@ -163,7 +163,7 @@ module _ (a : List ℕ) (fs : List Entry) (e : Entry) (gs : List Entry) (h : Hol
       let m : n - used (fs ++ gs) ≡ (n - used all) + size e = omega arith in
       let zs : zeros (n - used (fs ++ gs)) ≡ zeros (n - used all) ++ zeros (size e) =
       ap zeros m ∙ sym (replicate-append-replicate (n - used all) (size e) 0) in
-      ap (λ (es : List Entry). laid_out es n) (without_one fs e gs (good_once all h.is-good))
+      ap (λ (es : List Entry). laid_out es n) (without_one fs e gs (good_once all h.is_good))
       ∙ records_append fs gs (zeros (n - used (fs ++ gs)))
       ∙ ap (λ (s : List ℕ). records_then fs (records_then gs s)) zs
       ∙ records_then_lem fs (records_then gs (zeros (n - used all) ++ zeros (size e)))

@@ -104,4 +104,4 @@ used_laid (e ∷ es) m g =
 
 -- A shelf's bytes used end at its last byte that is not zero.
 pub holds_used : (a : List ℕ) (es : List Entry) → Holds a es → bytes_used a ≡ used es
-holds_used a es h = ap bytes_used (sym h.bytes) ∙ used_laid es (length a - used es) (good_each es h.is-good)
+holds_used a es h = ap bytes_used (sym h.bytes) ∙ used_laid es (length a - used es) (good_each es h.is_good)

@@ -118,8 +118,8 @@ used_without n (e ∷ es) = go (eqb n e.number) (used_without n es)
 pub fitting_append : (n : ℕ) (es : List Entry) (e : Entry) → Fitting n es → good_entry e ≡ true → stands e.number es ≡ false
     → room_for n es e ≡ true → Fitting n (es ++ (e ∷ []))
 fitting_append n es e f g s r =
-    let each = good_each es f.is-good in
-    let single = good_once es f.is-good in
+    let each = good_each es f.is_good in
+    let single = good_once es f.is_good in
     let room = leb-true (size e) (n - used es) r in
     let u = used_append es e in
     let small = f.fits in
@@ -127,8 +127,8 @@ fitting_append n es e f g s r =
 
 pub fitting_without : (n number : ℕ) (es : List Entry) → Fitting n es → Fitting n (without number es)
 fitting_without n number es f =
-    let each = good_each es f.is-good in
-    let single = good_once es f.is-good in
+    let each = good_each es f.is_good in
+    let single = good_once es f.is_good in
     let u = used_without number es in
     let small = f.fits in
     record { is_good = and_both (every_without number es each) (once_without number es single); fits = omega arith }

@@ -44,7 +44,7 @@ good_parts e h =
 pub parts_good : (e : Entry) → GoodParts e → good_entry e ≡ true
 parts_good e g =
     and_both (and_both (le-leb 1 e.number g.least) (le-leb e.number 65535 g.most))
-    (and_both g.is-valid (le-leb (length (strings e.posology)) greatest_room g.fits))
+    (and_both g.is_valid (le-leb (length (strings e.posology)) greatest_room g.fits))
 
 pub good_each : (es : List Entry) → good es ≡ true → every good_entry es ≡ true
 good_each es g = and_left (every good_entry es) (once es) g
@@ -92,11 +92,11 @@ pub record Begun (a : List ℕ) : Type 0 where
 pub begun_begins : (a : List ℕ) → Begun a → begins a ≡ true
 unfolding begins
 begun_begins a h =
-    let t₁ = and_both (le-leb (6 + number_at a 4) (length a) h.long) (eq-eqb (get_or a 0 0) 0x50 h.first-mark) in
-    let t₂ = and_both t₁ (eq-eqb (get_or a 1 0) 0x6F h.second-mark) in
+    let t₁ = and_both (le-leb (6 + number_at a 4) (length a) h.long) (eq-eqb (get_or a 0 0) 0x50 h.first_mark) in
+    let t₂ = and_both t₁ (eq-eqb (get_or a 1 0) 0x6F h.second_mark) in
     let t₃ = and_both t₂ (and_both (le-leb 1 (number_at a 2) h.least) (le-leb (number_at a 2) 65535 h.most)) in
-    let t₄ = and_both t₃ (lt-ltb (get_or a 3 0) 256 h.number-low) in
-    and_both t₄ (lt-ltb (get_or a 5 0) 256 h.length-low)
+    let t₄ = and_both t₃ (lt-ltb (get_or a 3 0) 256 h.number_low) in
+    and_both t₄ (lt-ltb (get_or a 5 0) 256 h.length_low)
 
 pub begins_begun : (a : List ℕ) → begins a ≡ true → Begun a
 unfolding begins
@@ -144,7 +144,7 @@ module _ (e : Entry) (k : List ℕ) (g : GoodParts e) where
   unfolding record_then
   record_begun =
       let l = length-append (plain e.posology) k in
-      let s = plain_within both_uses e.posology g.is-valid g.fits in
+      let s = plain_within both_uses e.posology g.is_valid g.fits in
       let low = g.least in
       let high = g.most in
       record {
@@ -165,7 +165,7 @@ module _ (e : Entry) (k : List ℕ) (g : GoodParts e) where
       ap (λ (n : ℕ). plain_of (take n (drop 6 (record_then e k)))) length_back
       ∙ ap (λ (s : List ℕ). plain_of (take (length (plain e.posology)) s)) behind_head
       ∙ ap plain_of (take_at (plain e.posology) k (length (plain e.posology)) refl)
-      ∙ plain_of_plain e.posology g.is-valid g.fits
+      ∙ plain_of_plain e.posology g.is_valid g.fits
 
   pub record_behind : drop (6 + number_at (record_then e k) 4) (record_then e k) ≡ k
   record_behind =
@@ -197,11 +197,11 @@ record_here a p b t =
     let l = number_at a 4 in
     let rest = length-drop 6 a in
     let long = h.long in
-    let small = h.number-low in
-    let small' = h.length-low in
-    let size_is : length (plain p) ≡ l = ap length i.text-is ∙ length-take-le l (drop 6 a) (omega arith) in
+    let small = h.number_low in
+    let small' = h.length_low in
+    let size_is : length (plain p) ≡ l = ap length i.text_is ∙ length-take-le l (drop 6 a) (omega arith) in
     let text_then : plain p ++ drop (6 + l) a ≡ drop 6 a =
-    ap (λ (s : List ℕ). s ++ drop (6 + l) a) i.text-is
+    ap (λ (s : List ℕ). s ++ drop (6 + l) a) i.text_is
     ∙ ap (λ (s : List ℕ). take l (drop 6 a) ++ s) (sym (drop-drop l 6 a))
     ∙ take-append-drop l (drop 6 a) in
     let n₀ : n / 256 ≡ get_or a 2 0 = omega arith in
@@ -209,8 +209,8 @@ record_here a p b t =
     let l₀ : length (plain p) / 256 ≡ get_or a 4 0 = ap (λ (x : ℕ). x / 256) size_is ∙ omega arith in
     let l₁ : length (plain p) % 256 ≡ get_or a 5 0 = ap (λ (x : ℕ). x % 256) size_is ∙ omega arith in
     record {
-      bytes = cc (six a (omega arith), h.first-mark, h.second-mark);
-      is_good = parts_good (entry n p) (record { least = h.least; most = h.most; is_valid = i.is-valid; fits = i.fits });
+      bytes = cc (six a (omega arith), h.first_mark, h.second_mark);
+      is_good = parts_good (entry n p) (record { least = h.least; most = h.most; is_valid = i.is_valid; fits = i.fits });
     }
 
 -- Its size, as the head says it.
@@ -221,5 +221,5 @@ record_size a p b t =
     let i = plain_of_text (take (number_at a 4) (drop 6 a)) p t in
     let long = h.long in
     let rest = length-drop 6 a in
-    let l : length (plain p) ≡ number_at a 4 = ap length i.text-is ∙ length-take-le (number_at a 4) (drop 6 a) (omega arith) in
+    let l : length (plain p) ≡ number_at a 4 = ap length i.text_is ∙ length-take-le (number_at a 4) (drop 6 a) (omega arith) in
     omega arith

@@ -16,8 +16,8 @@ pub call_on_laid : (n : ℕ) (c : Call) (es : List Entry) → n ≤ area_at_most
     → on_area c (laid_out es n) ≡ laid_again n (on_list n c es)
 unfolding on_area
 call_on_laid n c es small f =
-    ap (on_entries c (laid_out es n)) (laid_back es n f.is-good f.fits small)
-    ∙ ap (λ (m : ℕ). laid_again m (on_list m c es)) (laid_length es n (good_each es f.is-good) f.fits)
+    ap (on_entries c (laid_out es n)) (laid_back es n f.is_good f.fits small)
+    ∙ ap (λ (m : ℕ). laid_again m (on_list m c es)) (laid_length es n (good_each es f.is_good) f.fits)
 
 abbrev pub laid_run : ℕ → Run (List Entry) → Run (List ℕ)
 laid_run n r = record { told = r.told; left = laid_out r.left n }
@@ -41,9 +41,9 @@ nothing_laid n = let e : n ≡ n - 0 = omega arith in ap (λ (m : ℕ). replicat
 
 pub fitting_holds : (n : ℕ) (es : List Entry) → n ≤ area_at_most → Fitting n es → Holds (laid_out es n) es
 fitting_holds n es small f =
-    let l = laid_length es n (good_each es f.is-good) f.fits in
+    let l = laid_length es n (good_each es f.is_good) f.fits in
     let fits = f.fits in
-    record { small = omega arith; is_good = f.is-good; fits = omega arith; bytes = ap (laid_out es) l }
+    record { small = omega arith; is_good = f.is_good; fits = omega arith; bytes = ap (laid_out es) l }
 
 pub left_holds : (n : ℕ) (cs : List Call) (es : List Entry) → n ≤ area_at_most → Fitting n es
     → Holds (laid_out (run_on_list n cs es).left n) (run_on_list n cs es).left

@@ -23,7 +23,7 @@ use Rattle.shelf_list.proofs.Stored.{put_then_fetch, freed_serves}
 use Rattle.shelf_list.proofs.Grounds.{Refusal, call_ground, refused_by, numbers}
 
 pub holds_fitting : {a : List ℕ} {es : List Entry} → Holds a es → Fitting (length a) es
-holds_fitting h = record { is_good = h.is-good; fits = h.fits }
+holds_fitting h = record { is_good = h.is_good; fits = h.fits }
 
 pub on_shelf : (c : Call) (a : List ℕ) (es : List Entry) → Holds a es → on_area c a ≡ laid_again (length a) (on_list (length a) c es)
 unfolding on_area
@@ -80,7 +80,7 @@ keeps_length c a = go (entries_in a) refl
     go none e = refl
     go (some es) e =
         let f = call_keeps (length a) c es (holds_fitting (area_of_list a es e)) in
-        laid_length (on_list (length a) c es).state (length a) (good_each (on_list (length a) c es).state f.is-good) f.fits
+        laid_length (on_list (length a) c es).state (length a) (good_each (on_list (length a) c es).state f.is_good) f.fits
 
 -- A refusal with a ground of its own on the list has it on the area.
 pub exactly : (c : Call) (a : List ℕ) (m place : ℕ) (G : List Entry → Type 0) → (m ≡ 20 → ⊥)
@@ -116,7 +116,7 @@ put_then_fetched number purpose room text a p l s e g =
     let after = (on_list n c es).state in
     let f = call_keeps n c es (holds_fitting x.1) in
     ap (λ (o : Outcome (List ℕ)). fetch_in (entries_in o.state) number room) (on_shelf c a es x.1)
-    ∙ ap (λ (o : Option (List Entry)). fetch_in o number room) (laid_back after n f.is-good f.fits x.1.small)
+    ∙ ap (λ (o : Option (List Entry)). fetch_in o number room) (laid_back after n f.is_good f.fits x.1.small)
     ∙ put_then_fetch n es number purpose room text p l x.2 e g
 
 pub freed_on_area : (a : List ℕ) (es : List Entry) (number other purpose : ℕ) (text : List ℕ) (p q : Posology) → Holds a es

@@ -117,7 +117,7 @@ freed_serves n es number other purpose text p q f u e l place h = go (remove_end
     there_it_stands = under_stands number es p u
 
     go : {o : Outcome (List Entry)} → Remove es number o → (put_on n o.state other purpose text).answer ≡ refused 24 place → ⊥
-    go (not_number i) k = false≢true (sym i ∙ stands_number number es (good_each es f.is-good) there_it_stands)
+    go (not_number i) k = false≢true (sym i ∙ stands_number number es (good_each es f.is_good) there_it_stands)
     go (not_there i s) k = false≢true (sym s ∙ there_it_stands)
     go (taken_out i s) k = never_24 n (without number es) other purpose text q place e (freed_room_for n es number other p q f u l) k
 
@@ -150,5 +150,5 @@ stands_there n (e ∷ es) h = go (eqb n e.number) refl h (stands_there n es)
           it = s.it;
           behind = s.behind;
           is = ap (λ (fs : List Entry). e ∷ fs) s.is;
-          under_it = cond_false (eqb n e.number) (some e.posology) (under n es) i ∙ s.under-it;
+          under_it = cond_false (eqb n e.number) (some e.posology) (under n es) i ∙ s.under_it;
         }

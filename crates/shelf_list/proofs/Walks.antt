@@ -49,7 +49,7 @@ walk_goes_on a i es p w b t =
           ∙ records_append es (e ∷ []) (drop n (drop i a))
           ∙ ap (records_then es) h.bytes
           ∙ w.bytes;
-      each = every_append es e w.each h.is-good;
+      each = every_append es e w.each h.is_good;
     }
 
 -- What the area holds, by what follows the entries that were passed.

@@ -41,7 +41,7 @@ pub answers_as_its_list : (a : List ℕ) (es : List Entry) (cs : List Call) → 
     × ((run_on_area cs a).left ≡ laid_out (run_on_list (length a) cs es).left (length a))
 answers_as_its_list a es cs h =
     let e =
-    ap (run_on_area cs) (sym h.bytes) ∙ run_on_laid (length a) cs es h.small (record { is_good = h.is-good; fits = h.fits }) in
+    ap (run_on_area cs) (sym h.bytes) ∙ run_on_laid (length a) cs es h.small (record { is_good = h.is_good; fits = h.fits }) in
     (ap (λ r. r.told) e, ap (λ r. r.left) e)
 
 -- After any sequence of calls the area is a shelf again.

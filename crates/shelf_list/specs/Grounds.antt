@@ -12,8 +12,8 @@ use Rattle.shelf_list.specs.Calls.{Call, put, fetch, remove, under, for_fetch}
 -- "21 number 0", and one above 65,535
 pub data NoNumber : Call → Type 0 where
   put_under : {number purpose : ℕ} {text : List ℕ} → is_number number ≡ false → NoNumber (put number purpose text)
-  fetch_from_lem : {number room : ℕ} → is_number number ≡ false → NoNumber (fetch number room)
-  remove_from_lem : {number : ℕ} → is_number number ≡ false → NoNumber (remove number)
+  fetch_under : {number room : ℕ} → is_number number ≡ false → NoNumber (fetch number room)
+  remove_under : {number : ℕ} → is_number number ≡ false → NoNumber (remove number)
 
 -- "22 number already there"
 pub data AlreadyThere (es : List Entry) : Call → Type 0 where
@@ -22,7 +22,7 @@ pub data AlreadyThere (es : List Entry) : Call → Type 0 where
 
 -- "23 number not there"
 pub data NotThere (es : List Entry) : Call → Type 0 where
-  for_fetch_lem : {number room : ℕ} → is_number number ≡ true → stands number es ≡ false → NotThere es (fetch number room)
+  for_fetched : {number room : ℕ} → is_number number ≡ true → stands number es ≡ false → NotThere es (fetch number room)
   for_remove : {number : ℕ} → is_number number ≡ true → stands number es ≡ false → NotThere es (remove number)
 
 -- "the refusals of reading": of the text that is put, and of the plain text that is fetched into a short buffer

@@ -44,7 +44,7 @@ sets_over l xs at i h = ap (sets l at) (sym (drop_of_length-le xs h))
 pub puts_room : {before after : List ℕ} (from : ℕ) (bytes : List ℕ) → from + length bytes ≤ greatest_place → after ≡ sets before from bytes → (k : List ℕ) → Puts before from (bytes ++ k) k (from + length bytes) after
 puts_room from bytes h e k = record {
   bytes = bytes;
-  in_front_lem = refl;
+  in_front = refl;
   place = λ _. omega (arith, up_to_lem (from + length bytes));
   laid = λ _ _. e;
 }
@@ -52,7 +52,7 @@ puts_room from bytes h e k = record {
 pub puts_none : (buffer : List ℕ) (from : ℕ) (text : List ℕ) → Puts buffer from text text from buffer
 puts_none buffer from text = record {
   bytes = [];
-  in_front_lem = refl;
+  in_front = refl;
   place = λ h. omega (arith, up_to_lem (from + 0));
   laid = λ _ _. refl;
 }
@@ -64,7 +64,7 @@ puts_then {before} {from} {text} {mid} {rest} {r} {s} {between} {after} p q =
     let near : from ≤ greatest_place → r ≤ greatest_place = λ h. omega (arith, p.place h, up_to_lem (from + length xs)) in
     record {
       bytes = xs ++ ys;
-      in_front_lem = p.in-front ∙ ap (λ (t : List ℕ). xs ++ t) q.in-front ∙ sym (append_assoc xs ys rest);
+      in_front = p.in_front ∙ ap (λ (t : List ℕ). xs ++ t) q.in_front ∙ sym (append_assoc xs ys rest);
       place = λ h. omega (arith, p.place h, q.place (near h), up_to_lem (from + length xs), up_to_lem (r + length ys), up_to_lem (from + length (xs ++ ys)), length-append xs ys);
       laid = λ h l.
           let first = p.laid h l in
@@ -80,12 +80,12 @@ puts_near {from = from} p h = omega (arith, p.place h, up_to_lem (from + length 
 
 -- The same text, said in another way.
 pub puts_as : {before : List ℕ} {from : ℕ} {text other rest : List ℕ} {r : ℕ} {after : List ℕ} → text ≡ other → Puts before from other rest r after → Puts before from text rest r after
-puts_as e p = record { bytes = p.bytes; in_front_lem = e ∙ p.in-front; place = p.place; laid = p.laid }
+puts_as e p = record { bytes = p.bytes; in_front = e ∙ p.in_front; place = p.place; laid = p.laid }
 
 -- Two answers that are allowed are the same.
 pub puts_one : {before : List ℕ} {from : ℕ} {text rest : List ℕ} {r s : ℕ} {after other : List ℕ} → from ≤ greatest_place → length before ≤ greatest_place → Puts before from text rest r after → Puts before from text rest s other → (r ≡ s) × (after ≡ other)
 puts_one {before} {from} {text} {rest} h g p q =
-    let same : p.bytes ≡ q.bytes = append_cancel_right p.bytes q.bytes rest (sym p.in-front ∙ q.in-front) in (
+    let same : p.bytes ≡ q.bytes = append_cancel_right p.bytes q.bytes rest (sym p.in_front ∙ q.in_front) in (
       p.place h ∙ ap (λ (xs : List ℕ). up_to (from + length xs)) same ∙ sym (q.place h),
       p.laid h g ∙ ap (sets before from) same ∙ sym (q.laid h g),
     )
@@ -94,7 +94,7 @@ puts_one {before} {from} {text} {rest} h g p q =
 pub puts_byte : {before after : List ℕ} {at b r : ℕ} → after ≡ set before at b → r ≡ min (at + 1) greatest_place → (k : List ℕ) → Puts before at (b ∷ k) k r after
 puts_byte {before} {after} {at} {b} {r} e f k = record {
   bytes = b ∷ [];
-  in_front_lem = refl;
+  in_front = refl;
   place = λ _. f ∙ sym (up_to_lem (at + 1));
   laid = λ _ _. e;
 }

@@ -12,6 +12,6 @@ up_to n = cond (leb n greatest_place) n greatest_place
 -- What stands in `text` in front of `rest` is laid from `from` on, and r is the place behind it, whether the buffer reaches that far or not.
 pub record Puts (before : List ℕ) (from : ℕ) (text rest : List ℕ) (r : ℕ) (after : List ℕ) : Type 0 where
   pub bytes : List ℕ
-  pub in_front_lem : text ≡ bytes ++ rest
+  pub in_front : text ≡ bytes ++ rest
   pub place : from ≤ greatest_place → r ≡ up_to (from + length bytes)
   pub laid : from ≤ greatest_place → length before ≤ greatest_place → after ≡ sets before from bytes

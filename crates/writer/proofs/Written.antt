@@ -84,7 +84,7 @@ module _ (purpose : ℕ) (t : Table) (buffer : List ℕ) (n : length t.records �
       let few = s.few in
       let rest = bytes_of p.unit ++ (bytes_of p.appl_instr ++ (bytes_of p.roa ++ (bytes_of p.moa ++ s.behind))) in
       subst (λ q. DetailPrints (rows (all_words t.records)) buffer 3 0 (detail_tree q.po)) (sym s.read)
-      (detail_prints p.po 3 0 0 [] rest (valid_parts purpose p s.valid).detail (omega arith) s.lies (s.strings-first ∙ strings_append p s.behind ∙ sym (detail_append p.po rest)) (omega arith))
+      (detail_prints p.po 3 0 0 [] rest (valid_parts purpose p s.valid).detail (omega arith) s.lies (s.strings_first ∙ strings_append p s.behind ∙ sym (detail_append p.po rest)) (omega arith))
 
   pub plainly : head_fields buffer t.head (detail_tree (posology_of t buffer).po) [] ≡ plain (posology_of t buffer)
   unfolding posology_of

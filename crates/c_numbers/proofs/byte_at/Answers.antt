@@ -1,0 +1,17 @@
+-- A byte of the bytes, 0 behind its end.
+use native.Mathlib.Omega.{arith}
+use mathlib.Core.Path.{sym, refl}
+use lib.ListN.{get_or-eq_default}
+use Rattle.c_numbers.proofs.byte_at.Goals as goal
+
+pub overflow_cast-result : goal.overflow_cast-result
+overflow_cast-result c =
+    omega (arith, c.shared_slice_known-1.given c.args.at)
+
+pub returns-then-at-bytes : goal.returns-then-at-bytes
+returns-then-at-bytes c =
+    (refl, omega (arith, c.shared_slice_known-1.given c.args.at))
+
+pub returns : goal.returns
+returns c =
+    (sym (get_or-eq_default c.args.bytes.now 0 c.if-at-bytes.false), omega arith)

@@ -1,0 +1,19 @@
+-- Each answer is that of a row of the table `onward` at Start.
+use Rattle.json_grammar.specs.Number.{onward}
+use Rattle.json_grammar.proofs.Rows.{between, onwards, under}
+use Rattle.json_number.proofs.after_start.Goals as goal
+
+pub returns-then-b-ge46 : goal.returns-then-b-ge46
+unfolding onward
+returns-then-b-ge46 c =
+    search (onwards 46)
+
+pub returns-then-b-ge45 : goal.returns-then-b-ge45
+unfolding onward
+returns-then-b-ge45 c =
+    search (between 45 46)
+
+pub returns : goal.returns
+unfolding onward
+returns c =
+    search (under 45)

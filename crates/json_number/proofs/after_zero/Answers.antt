@@ -1,0 +1,19 @@
+-- Each answer is that of a row of the table `onward` at Zero.
+use Rattle.json_grammar.specs.Number.{onward}
+use Rattle.json_grammar.proofs.Rows.{between, onwards, under}
+use Rattle.json_number.proofs.after_zero.Goals as goal
+
+pub returns-then-b-ge47 : goal.returns-then-b-ge47
+unfolding onward
+returns-then-b-ge47 c =
+    search (onwards 47)
+
+pub returns-then-b-ge46 : goal.returns-then-b-ge46
+unfolding onward
+returns-then-b-ge46 c =
+    search (between 46 47)
+
+pub returns : goal.returns
+unfolding onward
+returns c =
+    search (under 46)

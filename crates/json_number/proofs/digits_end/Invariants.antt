@@ -1,0 +1,16 @@
+-- Each digit passed leads back to the same part, so the number ends where it ended.
+use Prim.Native.Nat.{◌-◌}
+use mathlib.Core.Path.{◌≡◌}
+use mathlib.Core.Bool.{true}
+use lib.ListN.{length}
+use Rattle.json_grammar.specs.Number.{takes_digits}
+use Rattle.json_grammar.specs.Part.{number_stop}
+use Rattle.json_grammar.specs.declared.number.InNumber.{InNumber}
+use Rattle.json_grammar.proofs.Passes.{Passes}
+use Rattle.json_number.proofs.digits_end.Given as goal
+
+abbrev pub invariant-loop-i : goal.invariant-loop-i
+invariant-loop-i l = (n : InNumber) → takes_digits n ≡ true → Passes (number_stop n) (number_stop n) l.text l.at l.i
+
+abbrev pub decreases-loop-i : goal.decreases-loop-i
+decreases-loop-i l = length l.text - l.i

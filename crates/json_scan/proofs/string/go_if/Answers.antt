@@ -1,0 +1,11 @@
+-- The two answers of the test.
+
+use Rattle.json_scan.proofs.string.go_if.Goals as goal
+
+pub returns-then-test : goal.returns-then-test
+returns-then-test c =
+    rw c.if-test.true
+
+pub returns-else-test : goal.returns-else-test
+returns-else-test c =
+    rw c.if-test.false
