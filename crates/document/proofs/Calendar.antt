@@ -30,9 +30,9 @@ order_some : (from : Option P.Date) (to : P.Date) → leb (written_if from) (wri
 order_some none to = le-leb 0 (written to) (omega arith)
 order_some (some from) to = refl
 
-pub order_given : (from : Option P.Date) (to : Date) → OneOf (1 ∷ 2 ∷ []) (tag_of date.the_type to)
+pub order_given : (from : Option P.Date) (to : Date) → (to ≡ D.Absent → ⊥)
     → leb (written_if from) (written_if (date_of to)) ≡ in_written_order from (date_of to)
-order_given from D.Absent h = absurd (miss (1 ∷ 2 ∷ []) 0 tt h)
+order_given from D.Absent h = absurd (h refl)
 order_given from (D.Bare y m d) h = order_some from _
 order_given from (D.Moment y m d s west zone) h = order_some from _
 
@@ -41,17 +41,17 @@ behind_small true n = omega arith
 behind_small false n = omega arith
 
 -- Where one of the two has no time, the days are compared as written.
-pub by_written_start : (from : Date) (to : Option P.Date) → OneOf (0 ∷ 1 ∷ []) (tag_of date.the_type from)
+pub by_written_start : (from : Date) (to : Option P.Date) → ((y m d s : ℕ) (west : Bool) (zone : ℕ) → from ≡ D.Moment y m d s west zone → ⊥)
     → in_written_order (date_of from) to ≡ in_order (date_of from) to
 by_written_start D.Absent to h = refl
 by_written_start (D.Bare y m d) none h = refl
 by_written_start (D.Bare y m d) (some to) h = refl
-by_written_start (D.Moment y m d s west zone) to h = absurd (miss (0 ∷ 1 ∷ []) 2 tt h)
+by_written_start (D.Moment y m d s west zone) to h = absurd (h y m d s west zone refl)
 
-pub by_written_end : (from : Option P.Date) (to : Date) → OneOf (0 ∷ 1 ∷ []) (tag_of date.the_type to)
+pub by_written_end : (from : Option P.Date) (to : Date) → ((y m d s : ℕ) (west : Bool) (zone : ℕ) → to ≡ D.Moment y m d s west zone → ⊥)
     → in_written_order from (date_of to) ≡ in_order from (date_of to)
 by_written_end none to h = refl
 by_written_end (some from) D.Absent h = refl
 by_written_end (some (P.bare d)) (D.Bare y m n) h = refl
 by_written_end (some (P.moment d s z)) (D.Bare y m n) h = refl
-by_written_end (some from) (D.Moment y m d s west zone) h = absurd (miss (0 ∷ 1 ∷ []) 2 tt h)
+by_written_end (some from) (D.Moment y m d s west zone) h = absurd (h y m d s west zone refl)

@@ -53,7 +53,7 @@ module _ (P : List ℕ → Type 0) where
 
 no_exponent : (f n : ℕ) (k : List ℕ) → Short f n → exponent k ≡ false → exponent (whole_digits f n k) ≡ false
 unfolding exponent
-no_exponent f n k h e = digits_hold (λ s. exponent s ≡ false) f n k h (λ d s i g. let x = digit d i in or_false (eqb (48 + d) 69) (eqb (48 + d) 101) (exponent s) x.no-E x.no-e ∙ g) e
+no_exponent f n k h e = digits_hold (λ s. exponent s ≡ false) f n k h (λ d s i g. let x = digit d i in or_false (eqb (48 + d) 69) (eqb (48 + d) 101) (exponent s) x.no_upper_e x.no_lower_e ∙ g) e
 
 behind_digits : (f n : ℕ) (k r : List ℕ) → Short f n → behind_point k ≡ r → behind_point (whole_digits f n k) ≡ r
 unfolding behind_point
@@ -163,7 +163,7 @@ module _ (P : List ℕ → Type 0) (step : (d : ℕ) (s : List ℕ) → d ≤ 9 
 
 no_exponent_behind : (f scale n : ℕ) → Falls f scale n → exponent (fraction_digits f scale n) ≡ false
 unfolding exponent
-no_exponent_behind f scale n h = fraction_holds (λ s. exponent s ≡ false) (λ d s i g. let x = digit d i in or_false (eqb (48 + d) 69) (eqb (48 + d) 101) (exponent s) x.no-E x.no-e ∙ g) refl f scale n h
+no_exponent_behind f scale n h = fraction_holds (λ s. exponent s ≡ false) (λ d s i g. let x = digit d i in or_false (eqb (48 + d) 69) (eqb (48 + d) 101) (exponent s) x.no_upper_e x.no_lower_e ∙ g) refl f scale n h
 
 pub fraction_length : (f scale n : ℕ) → length (fraction_digits f scale n) ≤ f
 unfolding fraction_digits
