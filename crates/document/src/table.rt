@@ -154,7 +154,7 @@ pub struct Reading {
 }
 
 // The first posology of a run: read, with the place behind its last byte; or only blanks remain; or refused.
-#[derive(Drop)]
+#[derive(Clone, Copy)]
 pub enum NextAnswer {
     Taken { end: usize },
     Blank { length: usize },

@@ -101,7 +101,7 @@ fn single(text: &[u8], at: usize, o: Object, terms: Terms, used: Used, words: &m
         return Visit::Refused(5, q);
     }
     let used = terms::one_more(used);
-    let r = bench_walk::read_timed(text, at, slots[TDO], UNDER_SINGLE, terms, used, words);
+    let r = timed::read_timed(text, at, slots[TDO], UNDER_SINGLE, terms, used, words);
     let Visit::Done(done) = r else {
         return r;
     };
@@ -127,7 +127,7 @@ fn cyclic(text: &[u8], at: usize, o: Object, terms: Terms, used: Used, words: &m
         return up_counted(f);
     };
     let under = allowed::under_cyclic(unit);
-    let r = bench_walk::read_timed(text, at, slots[TDO], under, terms, used, words);
+    let r = timed::read_timed(text, at, slots[TDO], under, terms, used, words);
     let Visit::Done(done) = r else {
         return r;
     };

@@ -54,7 +54,7 @@ fn put_single(words: &[u64], i: usize, out: &mut [u8], from: usize) -> usize
     ensures { (buffer : List ℕ) (left : ℕ) → tag_at words.now i ≡ 3 → Prints (DetailPrints words.now buffer left i) out.old from result out.new }
 {
     let at = write_bytes::put_all(out, from, b"{\"t\":3,\"tdo\":");
-    let at = bench_walk::put_timed(words, i + 1, out, at);
+    let at = timed::put_timed(words, i + 1, out, at);
     write_bytes::put(out, at, b'}')
 }
 
@@ -65,7 +65,7 @@ fn put_cyclic(words: &[u64], i: usize, out: &mut [u8], from: usize) -> usize
     let at = dosage::put_integer(out, from, b"{\"t\":4,\"cyDuU\":", table_rows::a(words, i));
     let at = dosage::put_integer(out, at, b",\"cyDu\":", table_rows::b(words, i));
     let at = write_bytes::put_all(out, at, b",\"tdo\":");
-    let at = bench_walk::put_timed(words, i + 1, out, at);
+    let at = timed::put_timed(words, i + 1, out, at);
     write_numbers::put_per_cycle(out, at, table_rows::c(words, i))
 }
 

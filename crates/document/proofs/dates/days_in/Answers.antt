@@ -1,6 +1,7 @@
 -- The days of each month.
 use Rattle.document.specs.Date.{days_in}
 use Rattle.document.proofs.Calendar.{no_month}
+use borrow.Author.Rules.{rules}
 use Rattle.document.proofs.dates.days_in.Goals as goal
 
 pub returns-then-is_leap : goal.returns-then-is_leap
@@ -70,4 +71,4 @@ returns-in-12 c =
 
 pub returns-in_default : goal.returns-in_default
 returns-in_default c =
-    no_month _ c.args.month c.in_default.not-1 c.in_default.not-2 c.in_default.not-3 c.in_default.not-4 c.in_default.not-5 c.in_default.not-6 c.in_default.not-7 c.in_default.not-8 c.in_default.not-9 c.in_default.not-10 c.in_default.not-11 c.in_default.not-12
+    search (rules, no_month)
