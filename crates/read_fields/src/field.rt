@@ -14,9 +14,9 @@ use crate::date::Dated;
 use document::table::Date;
 use document::terms;
 use document::terms::{Terms, Used};
-use json_move::Kind;
 use document_numbers::{Decimal, Integer};
 use json_lay::Laid;
+use json_move::Kind;
 
 // A number, or the refusal with its place.
 #[derive(Clone, Copy)]

@@ -131,7 +131,7 @@ module _ {seed : ℕ} {text table : List ℕ} {seen : List (List ℕ)} (t : Tabl
             rw (is, same_refl n)
         sounds j h p false i =
             let was = e.other j (λ l. eqb-false j r i) in
-            rw (name_at_lem text table after j was) (either (same (slot_name text table j) n) (t.sound j h (rw was at p)))
+            ap (λ (m : List ℕ). has m (n ∷ seen)) (name_at_lem text table after j was) ∙ either (same (slot_name text table j) n) (t.sound j h (rw was at p))
 
         wholes : (m : List ℕ) → has m (n ∷ seen) ≡ true → (x : Bool) → same m n ≡ x → Kept seed text after m
         wholes m h true i = rw (same_equal m n i) here

@@ -18,7 +18,7 @@ loop-i-init c =
 
 pub returns-then-b-eq34 : goal.returns-then-b-eq34
 returns-then-b-eq34 c =
-    slot_is _ _ (sym (hash_ends _ _ (plain_ends _ _ c.loop-i-test.true c.if-b-eq34.true)) ∙ c.loop-i.invariant) c.start_of_lem.ensures
+    slot_is _ _ (sym (hash_ends _ _ (plain_ends _ _ c.loop-i-test.true c.if-b-eq34.true)) ∙ c.loop-i.invariant) c.start_of.ensures
 
 pub returns-then-not-is_ascii : goal.returns-then-not-is_ascii
 returns-then-not-is_ascii c =
@@ -27,7 +27,7 @@ returns-then-not-is_ascii c =
 pub loop-i-preserved : goal.loop-i-preserved
 loop-i-preserved c =
     rw c.hash_on-h.ensures
-    (sym (hash_on_lem _ _ (plain_on _ _ c.loop-i-test.true (ap not (sym c.is_ascii.ensures) ∙ c.if-not-is_ascii.false))) ∙ c.loop-i.invariant)
+    (sym (hash_on_lem _ _ (plain_on _ _ c.loop-i-test.true (ap not (sym c.is_ascii.ensures) ∙ (ap not c.if-not-is_ascii.false)))) ∙ c.loop-i.invariant)
 
 pub returns : goal.returns
 returns c =

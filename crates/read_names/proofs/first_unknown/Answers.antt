@@ -18,14 +18,14 @@ pub returns-then-not-is_among : goal.returns-then-not-is_among
 returns-then-not-is_among c h =
     let e = sym c.at_end.ensures ∙ c.if-at_end.false in
     let n = ap (λ k. is_in k c.args.known.now) (sym c.named-m.ensures.0) ∙ sym c.is_among.ensures in
-    (sym (c.loop-left.invariant h) ∙ unknown_here c.args.known.now h _ _ c.loop-left-test.true e (ap not n ∙ c.if-not-is_among.true), not_behind _ _ e)
+    (sym (c.loop-left.invariant h) ∙ unknown_here c.args.known.now h _ _ c.loop-left-test.true e (ap not n ∙ (ap not c.if-not-is_among.true)), not_behind _ _ e)
 
 pub loop-left-preserved : goal.loop-left-preserved
 loop-left-preserved c h =
     let e = sym c.at_end.ensures ∙ c.if-at_end.false in
     let n = ap (λ k. is_in k c.args.known.now) (sym c.named-m.ensures.0) ∙ sym c.is_among.ensures in
     rw (c.next_after-q.ensures.lands, c.named-m.ensures.1.lands)
-    (unknown_on c.args.known.now h _ _ c.loop-left-test.true e (ap not n ∙ c.if-not-is_among.false) ∙ c.loop-left.invariant h)
+    (unknown_on c.args.known.now h _ _ c.loop-left-test.true e (ap not n ∙ (ap not c.if-not-is_among.false)) ∙ c.loop-left.invariant h)
 
 pub returns : goal.returns
 returns c h =

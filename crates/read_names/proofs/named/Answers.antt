@@ -27,7 +27,7 @@ returns-then-not-is_ascii c =
 
 pub loop-i-preserved : goal.loop-i-preserved
 loop-i-preserved c =
-    let ascii = ap not (sym c.is_ascii.ensures) ∙ c.if-not-is_ascii.false in (
+    let ascii = ap not (sym c.is_ascii.ensures) ∙ (ap not c.if-not-is_ascii.false) in (
       letters_on c.loop-i.invariant.0 (plain_on _ _ c.loop-i-test.true ascii) c.with_letter-p.ensures,
       omega arith,
       value_on c.loop-i.invariant.2 c.loop-i-test.true c.if-b-eq34.false ascii,

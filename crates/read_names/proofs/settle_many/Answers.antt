@@ -1,13 +1,13 @@
 -- The members passed are settled, their names are in the table, and the others stand at q. The measure is what is left of the length.
 use Prim.Native.Nat.{ℕ, ◌-◌}
 use mathlib.Core.Path.{refl, sym, ◌∙◌}
-use mathlib.Core.Logic.{⊎_elim}
 use lib.ListN.{length-replicate, get_or-replicate}
 use Rattle.read_names.proofs.Slots.{noted_known, noted_other}
 use Rattle.read_names.proofs.Settling.{settled_end, settled_all}
 use Rattle.read_names.proofs.Table.{entered_in, entered_out}
 use Rattle.read_names.proofs.Tabling.{tabling_none, tabled_twice, tabling_on}
 use Rattle.read_names.proofs.settle_many.Goals as goal
+use Rattle.read_names.proofs.settle_many.Goals.{then-i-lt-TABLE, else-i-lt-TABLE, then-k-lt-NAMES, else-k-lt-NAMES}
 
 pub loop-members-init : goal.loop-members-init
 loop-members-init c p ms a =
@@ -29,9 +29,15 @@ loop-members-preserved c p ms a =
     let i = c.loop-members.invariant p ms a in
     tabling_on i c.slot_of-i.ensures (sym c.at_end.ensures ∙ c.if-at_end.false) (sym c.stood_in.ensures ∙ c.if-stood_in.false)
     c.loop-members-test.true
-    (⊎_elim (λ w. entered_in _ _ _ _ i.size w.0.taken w.1) (λ w. entered_out _ _ _ _ w.0.left w.1) c.if-i-lt-TABLE.branch)
+    (elim c.if-i-lt-TABLE.branch [
+      | then-i-lt-TABLE w ↦ entered_in _ _ _ _ i.size w.if-i-lt-TABLE.true w.table-is
+      | else-i-lt-TABLE w ↦ entered_out _ _ _ _ w.if-i-lt-TABLE.false w.table-is
+    ])
     _ c.named-m.ensures.0 _ c.named-m.ensures.1 _ c.next_after-q.ensures _
-    (⊎_elim (λ w. noted_known _ _ _ i.settling.size w.0.taken _ w.1) (λ w. noted_other _ _ _ w.0.left _ w.1) c.if-k-lt-NAMES.branch)
+    (elim c.if-k-lt-NAMES.branch [
+      | then-k-lt-NAMES w ↦ noted_known _ _ _ i.settling.size w.if-k-lt-NAMES.true _ w.slots-is
+      | else-k-lt-NAMES w ↦ noted_other _ _ _ w.if-k-lt-NAMES.false _ w.slots-is
+    ])
 
 pub returns : goal.returns
 returns c p ms a =

@@ -18,7 +18,7 @@ pub returns-then-n-eq0 : goal.returns-then-n-eq0
 returns-then-n-eq0 c =
     let run = hash_run c.run_end-end.ensures c.behind_run.ensures _ _ c.hash_all-h.ensures in
     let none = c.next_bytes-next.ensures.none c.if-n-eq0.true in
-    slot_is _ _ (sym (hash_ends _ _ none) ∙ run ∙ c.loop-next.invariant) c.start_of_lem.ensures
+    slot_is _ _ (sym (hash_ends _ _ none) ∙ run ∙ c.loop-next.invariant) c.start_of.ensures
 
 pub hash_all-h-requires-in-loop-next : goal.hash_all-h-requires-in-loop-next
 hash_all-h-requires-in-loop-next c =

@@ -1,0 +1,11 @@
+-- A digit, by its two bounds.
+use borrow.Author.Tests.{lt-leb, le-leb}
+use Rattle.read_fields.proofs.date.is_digit.Goals as goal
+
+pub returns-then-b-lt48 : goal.returns-then-b-lt48
+returns-then-b-lt48 c =
+    rw (lt-leb 48 _ c.if-b-lt48.true)
+
+pub returns : goal.returns
+returns c =
+    rw (le-leb 48 _ c.if-b-lt48.false)
