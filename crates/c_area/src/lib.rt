@@ -7,8 +7,8 @@ ghost use Rattle.c_numbers.specs.Eights.{all_bytes};
 ghost use Rattle.c_area.specs.Area.{area_of, area_bytes};
 ghost use Rattle.c_area.specs.Dates.{seven};
 
-use document::table::{Date, Head, Table, WORDS};
 use c_numbers::lay_numbers;
+use document::table::{Date, Head, Table, WORDS};
 
 pub const AREA: usize = 3280;
 

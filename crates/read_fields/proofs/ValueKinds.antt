@@ -3,13 +3,10 @@ use Prim.Native.Nat.{ℕ}
 use mathlib.Core.Path.{◌≡◌, refl}
 use mathlib.Core.List.{List, [], ◌∷◌}
 use mathlib.Core.Bool.{true, false}
-use types.Run.{OneOf, miss}
-use denote.Enum.Declared.{tag_of}
 use Rattle.json_grammar.specs.Tree.{Place, Tree, object, list, string, number, bool, null}
 use Rattle.json_grammar.specs.Grammar.{Value, an_empty_object, an_object, an_empty_list, a_list, a_string, a_number, a_true, a_false, a_null}
 use Rattle.json_move.specs.Moving.{kind_of}
 use Rattle.json_move.specs.declared.Kind.{Kind}
-use Rattle.json_move.specs.contracts.Kind as declared
 use Rattle.json_move.specs.declared.Kind.TheVariants as K
 use Rattle.json_laws.proofs.Skipped.{digits_kind}
 use Rattle.read_fields.specs.Reading.{is_object, is_array, is_text, is_number, is_null}
@@ -55,8 +52,8 @@ place_of a_false = refl
 place_of a_null = refl
 
 -- A kind that is none of a match's cases.
-pub not_object : (k : Kind) → OneOf (1 ∷ 2 ∷ 3 ∷ 4 ∷ 5 ∷ 6 ∷ []) (tag_of declared.the_type k) → false ≡ is_object k
-not_object K.Object h = absurd (miss (1 ∷ 2 ∷ 3 ∷ 4 ∷ 5 ∷ 6 ∷ []) 0 tt h)
+pub not_object : (k : Kind) → (k ≡ K.Object → ⊥) → false ≡ is_object k
+not_object K.Object h = absurd (h refl)
 not_object K.Array h = refl
 not_object K.Text h = refl
 not_object K.Number h = refl
@@ -64,38 +61,38 @@ not_object K.True h = refl
 not_object K.False h = refl
 not_object K.Null h = refl
 
-pub not_array : (k : Kind) → OneOf (0 ∷ 2 ∷ 3 ∷ 4 ∷ 5 ∷ 6 ∷ []) (tag_of declared.the_type k) → false ≡ is_array k
+pub not_array : (k : Kind) → (k ≡ K.Array → ⊥) → false ≡ is_array k
 not_array K.Object h = refl
-not_array K.Array h = absurd (miss (0 ∷ 2 ∷ 3 ∷ 4 ∷ 5 ∷ 6 ∷ []) 1 tt h)
+not_array K.Array h = absurd (h refl)
 not_array K.Text h = refl
 not_array K.Number h = refl
 not_array K.True h = refl
 not_array K.False h = refl
 not_array K.Null h = refl
 
-pub not_text : (k : Kind) → OneOf (0 ∷ 1 ∷ 3 ∷ 4 ∷ 5 ∷ 6 ∷ []) (tag_of declared.the_type k) → false ≡ is_text k
+pub not_text : (k : Kind) → (k ≡ K.Text → ⊥) → false ≡ is_text k
 not_text K.Object h = refl
 not_text K.Array h = refl
-not_text K.Text h = absurd (miss (0 ∷ 1 ∷ 3 ∷ 4 ∷ 5 ∷ 6 ∷ []) 2 tt h)
+not_text K.Text h = absurd (h refl)
 not_text K.Number h = refl
 not_text K.True h = refl
 not_text K.False h = refl
 not_text K.Null h = refl
 
-pub not_number : (k : Kind) → OneOf (0 ∷ 1 ∷ 2 ∷ 4 ∷ 5 ∷ 6 ∷ []) (tag_of declared.the_type k) → false ≡ is_number k
+pub not_number : (k : Kind) → (k ≡ K.Number → ⊥) → false ≡ is_number k
 not_number K.Object h = refl
 not_number K.Array h = refl
 not_number K.Text h = refl
-not_number K.Number h = absurd (miss (0 ∷ 1 ∷ 2 ∷ 4 ∷ 5 ∷ 6 ∷ []) 3 tt h)
+not_number K.Number h = absurd (h refl)
 not_number K.True h = refl
 not_number K.False h = refl
 not_number K.Null h = refl
 
-pub not_null : (k : Kind) → OneOf (0 ∷ 1 ∷ 2 ∷ 3 ∷ 4 ∷ 5 ∷ []) (tag_of declared.the_type k) → false ≡ is_null k
+pub not_null : (k : Kind) → (k ≡ K.Null → ⊥) → false ≡ is_null k
 not_null K.Object h = refl
 not_null K.Array h = refl
 not_null K.Text h = refl
 not_null K.Number h = refl
 not_null K.True h = refl
 not_null K.False h = refl
-not_null K.Null h = absurd (miss (0 ∷ 1 ∷ 2 ∷ 3 ∷ 4 ∷ 5 ∷ []) 6 tt h)
+not_null K.Null h = absurd (h refl)

@@ -24,16 +24,12 @@ overflow_cast-result-then-bytes-eq10-2 c =
 
 pub returns-then-bytes-eq10 : goal.returns-then-bytes-eq10
 returns-then-bytes-eq10 c =
-    let day-of = c.day_of in
-    (P.bare (day_at c.in-Is.year c.in-Is.month c.in-Is.day), a_bare_date c.args.bytes.now _ _ _ (rw c.in-Is.is at day-of.ensures) c.if-bytes-eq10.true, refl)
+    (P.bare (day_at c.in-Is.year c.in-Is.month c.in-Is.day), a_bare_date c.args.bytes.now _ _ _ (rw c.in-Is.is at c.day_of.ensures) c.if-bytes-eq10.true, refl)
 
 pub moment_of-requires : goal.moment_of-requires
 moment_of-requires c =
-    let day-of = c.day_of in
-    record { year = (rw c.in-Is.is at day-of.ensures).year; month = (rw c.in-Is.is at day-of.ensures).month; day = (rw c.in-Is.is at day-of.ensures).day }
+    record { year = (rw c.in-Is.is at c.day_of.ensures).year; month = (rw c.in-Is.is at c.day_of.ensures).month; day = (rw c.in-Is.is at c.day_of.ensures).day }
 
 pub returns : goal.returns
 returns c =
-    let day-of = c.day_of in
-    let moment-of = c.moment_of in
-    a_date c.args.bytes.now _ _ _ (rw c.in-Is.is at day-of.ensures) c.if-bytes-eq10.false moment-of.result moment-of.ensures
+    a_date c.args.bytes.now _ _ _ (rw c.in-Is.is at c.day_of.ensures) c.if-bytes-eq10.false c.moment_of.result c.moment_of.ensures

@@ -10,46 +10,24 @@ returns-in_default c =
 
 pub returns-then-not-is_at : goal.returns-then-not-is_at
 returns-then-not-is_at c =
-    let year-at = c.year_at in
-    no_dash c.args.bytes.now _ (rw c.in-Is.is at year-at.ensures) _ c.is_at.ensures (ap not c.if-not-is_at.true)
+    no_dash c.args.bytes.now _ (rw c.in-Is.is at c.year_at.ensures) _ c.is_at.ensures (ap not c.if-not-is_at.true)
 
 pub returns-in_default-pair_at : goal.returns-in_default-pair_at
 returns-in_default-pair_at c =
-    let year-at = c.year_at in
-    let pair-at = c.pair_at in
-    let enum-told2 = c.enum_told-in_default-pair_at-1 in
-    no_month_here c.args.bytes.now _ (rw c.in-Is.is at year-at.ensures) _ c.is_at.ensures (ap not c.if-not-is_at.false) (rw enum-told2.given.1 at pair-at.ensures)
+    no_month_here c.args.bytes.now _ (rw c.in-Is.is at c.year_at.ensures) _ c.is_at.ensures (ap not c.if-not-is_at.false) (rw c.in_default-pair_at.is at c.pair_at.ensures)
 
 pub returns-then-not-is_at-2 : goal.returns-then-not-is_at-2
 returns-then-not-is_at-2 c =
-    let year-at = c.year_at in
-    let pair-at = c.pair_at in
-    let is-at2 = c.is_at-2 in
-    no_dash_2 c.args.bytes.now _ (rw c.in-Is.is at year-at.ensures) _ c.is_at.ensures (ap not c.if-not-is_at.false) _ (rw c.in-Is-pair_at.is at pair-at.ensures) _ is-at2.ensures (ap not c.if-not-is_at-2.true)
+    no_dash_2 c.args.bytes.now _ (rw c.in-Is.is at c.year_at.ensures) _ c.is_at.ensures (ap not c.if-not-is_at.false) _ (rw c.in-Is-pair_at.is at c.pair_at.ensures) _ c.is_at-2.ensures (ap not c.if-not-is_at-2.true)
 
 pub returns-in_default-pair_at-2 : goal.returns-in_default-pair_at-2
 returns-in_default-pair_at-2 c =
-    let year-at = c.year_at in
-    let pair-at = c.pair_at in
-    let is-at2 = c.is_at-2 in
-    let pair-at2 = c.pair_at-2 in
-    let enum-told3 = c.enum_told-in_default-pair_at-2-1 in
-    no_day_here c.args.bytes.now _ (rw c.in-Is.is at year-at.ensures) _ c.is_at.ensures (ap not c.if-not-is_at.false) _ (rw c.in-Is-pair_at.is at pair-at.ensures) _ is-at2.ensures (ap not c.if-not-is_at-2.false) (rw enum-told3.given.1 at pair-at2.ensures)
+    no_day_here c.args.bytes.now _ (rw c.in-Is.is at c.year_at.ensures) _ c.is_at.ensures (ap not c.if-not-is_at.false) _ (rw c.in-Is-pair_at.is at c.pair_at.ensures) _ c.is_at-2.ensures (ap not c.if-not-is_at-2.false) (rw c.in_default-pair_at-2.is at c.pair_at-2.ensures)
 
 pub returns-then-not-is_day : goal.returns-then-not-is_day
 returns-then-not-is_day c =
-    let year-at = c.year_at in
-    let pair-at = c.pair_at in
-    let is-at2 = c.is_at-2 in
-    let pair-at2 = c.pair_at-2 in
-    let is-day = c.is_day in
-    no_such_day c.args.bytes.now _ (rw c.in-Is.is at year-at.ensures) _ c.is_at.ensures (ap not c.if-not-is_at.false) _ (rw c.in-Is-pair_at.is at pair-at.ensures) _ is-at2.ensures (ap not c.if-not-is_at-2.false) _ (rw c.in-Is-pair_at-2.is at pair-at2.ensures) _ is-day.ensures (ap not c.if-not-is_day.true)
+    no_such_day c.args.bytes.now _ (rw c.in-Is.is at c.year_at.ensures) _ c.is_at.ensures (ap not c.if-not-is_at.false) _ (rw c.in-Is-pair_at.is at c.pair_at.ensures) _ c.is_at-2.ensures (ap not c.if-not-is_at-2.false) _ (rw c.in-Is-pair_at-2.is at c.pair_at-2.ensures) _ c.is_day.ensures (ap not c.if-not-is_day.true)
 
 pub returns : goal.returns
 returns c =
-    let year-at = c.year_at in
-    let pair-at = c.pair_at in
-    let is-at2 = c.is_at-2 in
-    let pair-at2 = c.pair_at-2 in
-    let is-day = c.is_day in
-    a_day c.args.bytes.now _ (rw c.in-Is.is at year-at.ensures) _ c.is_at.ensures (ap not c.if-not-is_at.false) _ (rw c.in-Is-pair_at.is at pair-at.ensures) _ is-at2.ensures (ap not c.if-not-is_at-2.false) _ (rw c.in-Is-pair_at-2.is at pair-at2.ensures) _ is-day.ensures (ap not c.if-not-is_day.false)
+    a_day c.args.bytes.now _ (rw c.in-Is.is at c.year_at.ensures) _ c.is_at.ensures (ap not c.if-not-is_at.false) _ (rw c.in-Is-pair_at.is at c.pair_at.ensures) _ c.is_at-2.ensures (ap not c.if-not-is_at-2.false) _ (rw c.in-Is-pair_at-2.is at c.pair_at-2.ensures) _ c.is_day.ensures (ap not c.if-not-is_day.false)

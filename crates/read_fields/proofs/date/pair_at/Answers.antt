@@ -21,8 +21,7 @@ returns-then-not-is_digit c =
 
 pub returns-then-not-is_digit-2 : goal.returns-then-not-is_digit-2
 returns-then-not-is_digit-2 c =
-    let is-digit2 = c.is_digit-2 in
-    second_no_digit c.args.bytes.now c.args.at (omega (arith, c.if-bytes-at-lt2.false, c.if-bytes-at.false)) c.is_digit.result is-digit2.result c.is_digit.ensures (ap not c.if-not-is_digit.false) is-digit2.ensures (ap not c.if-not-is_digit-2.true)
+    second_no_digit c.args.bytes.now c.args.at (omega (arith, c.if-bytes-at-lt2.false, c.if-bytes-at.false)) c.is_digit.result c.is_digit-2.result c.is_digit.ensures (ap not c.if-not-is_digit.false) c.is_digit-2.ensures (ap not c.if-not-is_digit-2.true)
 
 pub overflow_sub-result : goal.overflow_sub-result
 overflow_sub-result c =
@@ -34,15 +33,12 @@ overflow_mul-result c =
 
 pub overflow_sub-result-2 : goal.overflow_sub-result-2
 overflow_sub-result-2 c =
-    let is-digit2 = c.is_digit-2 in
-    omega (arith, c.wide-2.ensures, digit_least (get_or c.args.bytes.now (c.args.at + 1) 0) is-digit2.result is-digit2.ensures (ap not c.if-not-is_digit-2.false))
+    omega (arith, c.wide-2.ensures, digit_least (get_or c.args.bytes.now (c.args.at + 1) 0) c.is_digit-2.result c.is_digit-2.ensures (ap not c.if-not-is_digit-2.false))
 
 pub overflow_add-result : goal.overflow_add-result
 overflow_add-result c =
-    let is-digit2 = c.is_digit-2 in
-    omega (arith, c.wide-2.ensures, c.wide.ensures, digit_most (get_or c.args.bytes.now c.args.at 0) c.is_digit.result c.is_digit.ensures (ap not c.if-not-is_digit.false), digit_most (get_or c.args.bytes.now (c.args.at + 1) 0) is-digit2.result is-digit2.ensures (ap not c.if-not-is_digit-2.false))
+    omega (arith, c.wide-2.ensures, c.wide.ensures, digit_most (get_or c.args.bytes.now c.args.at 0) c.is_digit.result c.is_digit.ensures (ap not c.if-not-is_digit.false), digit_most (get_or c.args.bytes.now (c.args.at + 1) 0) c.is_digit-2.result c.is_digit-2.ensures (ap not c.if-not-is_digit-2.false))
 
 pub returns : goal.returns
 returns c =
-    let is-digit2 = c.is_digit-2 in
-    two_digits c.args.bytes.now c.args.at (omega (arith, c.if-bytes-at-lt2.false, c.if-bytes-at.false)) c.is_digit.result is-digit2.result c.wide.result c.wide-2.result c.is_digit.ensures (ap not c.if-not-is_digit.false) is-digit2.ensures (ap not c.if-not-is_digit-2.false) c.wide.ensures c.wide-2.ensures
+    two_digits c.args.bytes.now c.args.at (omega (arith, c.if-bytes-at-lt2.false, c.if-bytes-at.false)) c.is_digit.result c.is_digit-2.result c.wide.result c.wide-2.result c.is_digit.ensures (ap not c.if-not-is_digit.false) c.is_digit-2.ensures (ap not c.if-not-is_digit-2.false) c.wide.ensures c.wide-2.ensures

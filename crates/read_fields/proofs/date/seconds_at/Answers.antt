@@ -1,5 +1,4 @@
 -- Seconds behind minutes.
-use borrow.Author.Rules.{rules}
 use Rattle.read_fields.proofs.DateLaws.{no_seconds, no_second, late_second, a_second}
 use mathlib.Core.Path.{ap}
 use mathlib.Core.Bool.{not}
@@ -9,21 +8,14 @@ pub returns-then-not-is_at : goal.returns-then-not-is_at
 returns-then-not-is_at c =
     no_seconds c.args.bytes.now c.args.at c.args.minutes _ c.is_at.ensures (ap not c.if-not-is_at.true)
 
-pub enum_told-1 : goal.enum_told-1
-enum_told-1 c =
-    search rules
-
 pub returns-in_default : goal.returns-in_default
 returns-in_default c =
-    let pair-at = c.pair_at in
-    no_second c.args.bytes.now c.args.at c.args.minutes _ c.is_at.ensures (ap not c.if-not-is_at.false) (rw c.in_default.is at pair-at.ensures)
+    no_second c.args.bytes.now c.args.at c.args.minutes _ c.is_at.ensures (ap not c.if-not-is_at.false) (rw c.in_default.is at c.pair_at.ensures)
 
 pub returns-then-s-gt59 : goal.returns-then-s-gt59
 returns-then-s-gt59 c =
-    let pair-at = c.pair_at in
-    late_second c.args.bytes.now c.args.at c.args.minutes _ c.is_at.ensures (ap not c.if-not-is_at.false) _ (rw c.in-Is.is at pair-at.ensures) c.if-s-gt59.true
+    late_second c.args.bytes.now c.args.at c.args.minutes _ c.is_at.ensures (ap not c.if-not-is_at.false) _ (rw c.in-Is.is at c.pair_at.ensures) c.if-s-gt59.true
 
 pub returns : goal.returns
 returns c =
-    let pair-at = c.pair_at in
-    a_second c.args.bytes.now c.args.at c.args.minutes _ c.is_at.ensures (ap not c.if-not-is_at.false) _ (rw c.in-Is.is at pair-at.ensures) c.requires.1 c.if-s-gt59.false
+    a_second c.args.bytes.now c.args.at c.args.minutes _ c.is_at.ensures (ap not c.if-not-is_at.false) _ (rw c.in-Is.is at c.pair_at.ensures) c.requires.1 c.if-s-gt59.false

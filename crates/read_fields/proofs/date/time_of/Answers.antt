@@ -14,8 +14,7 @@ overflow_mul-result c =
 
 pub returns-then-bytes-eq5 : goal.returns-then-bytes-eq5
 returns-then-bytes-eq5 c =
-    let clock-at = c.clock_at in
-    minutes_only c.args.bytes.now _ (rw c.in-Is.is at clock-at.ensures) c.if-bytes-eq5.true
+    minutes_only c.args.bytes.now _ (rw c.in-Is.is at c.clock_at.ensures) c.if-bytes-eq5.true
 
 pub seconds_at-requires : goal.seconds_at-requires
 seconds_at-requires c =
@@ -23,19 +22,12 @@ seconds_at-requires c =
 
 pub returns-in_default-seconds_at : goal.returns-in_default-seconds_at
 returns-in_default-seconds_at c =
-    let clock-at = c.clock_at in
-    let seconds-at = c.seconds_at in
-    let enum-told2 = c.enum_told-in_default-seconds_at-1 in
-    time_no_seconds c.args.bytes.now _ (rw c.in-Is.is at clock-at.ensures) c.if-bytes-eq5.false (rw enum-told2.given.1 at seconds-at.ensures)
+    time_no_seconds c.args.bytes.now _ (rw c.in-Is.is at c.clock_at.ensures) c.if-bytes-eq5.false (rw c.in_default-seconds_at.is at c.seconds_at.ensures)
 
 pub returns-then-bytes-eq8 : goal.returns-then-bytes-eq8
 returns-then-bytes-eq8 c =
-    let clock-at = c.clock_at in
-    let seconds-at = c.seconds_at in
-    a_time c.args.bytes.now _ (rw c.in-Is.is at clock-at.ensures) c.if-bytes-eq5.false _ (rw c.in-Is-seconds_at.is at seconds-at.ensures) c.if-bytes-eq8.true
+    a_time c.args.bytes.now _ (rw c.in-Is.is at c.clock_at.ensures) c.if-bytes-eq5.false _ (rw c.in-Is-seconds_at.is at c.seconds_at.ensures) c.if-bytes-eq8.true
 
 pub returns : goal.returns
 returns c =
-    let clock-at = c.clock_at in
-    let seconds-at = c.seconds_at in
-    time_not_over c.args.bytes.now _ (rw c.in-Is.is at clock-at.ensures) c.if-bytes-eq5.false _ (rw c.in-Is-seconds_at.is at seconds-at.ensures) c.if-bytes-eq8.false
+    time_not_over c.args.bytes.now _ (rw c.in-Is.is at c.clock_at.ensures) c.if-bytes-eq5.false _ (rw c.in-Is-seconds_at.is at c.seconds_at.ensures) c.if-bytes-eq8.false

@@ -9,24 +9,16 @@ returns-in_default c =
 
 pub returns-in_default-pair_at : goal.returns-in_default-pair_at
 returns-in_default-pair_at c =
-    let pair-at = c.pair_at in
-    let pair-at2 = c.pair_at-2 in
-    let enum-told2 = c.enum_told-in_default-pair_at-1 in
-    no_year_2 c.args.bytes.now _ (rw c.in-Is.is at pair-at.ensures) (rw enum-told2.given.1 at pair-at2.ensures)
+    no_year_2 c.args.bytes.now _ (rw c.in-Is.is at c.pair_at.ensures) (rw c.in_default-pair_at.is at c.pair_at-2.ensures)
 
 pub overflow_mul-result : goal.overflow_mul-result
 overflow_mul-result c =
-    let pair-at = c.pair_at in
-    omega (arith, (rw c.in-Is.is at pair-at.ensures).small)
+    omega (arith, (rw c.in-Is.is at c.pair_at.ensures).small)
 
 pub overflow_add-result : goal.overflow_add-result
 overflow_add-result c =
-    let pair-at = c.pair_at in
-    let pair-at2 = c.pair_at-2 in
-    omega (arith, (rw c.in-Is.is at pair-at.ensures).small, (rw c.in-Is-pair_at.is at pair-at2.ensures).small)
+    omega (arith, (rw c.in-Is.is at c.pair_at.ensures).small, (rw c.in-Is-pair_at.is at c.pair_at-2.ensures).small)
 
 pub returns : goal.returns
 returns c =
-    let pair-at = c.pair_at in
-    let pair-at2 = c.pair_at-2 in
-    year_is c.args.bytes.now _ _ (rw c.in-Is.is at pair-at.ensures) (rw c.in-Is-pair_at.is at pair-at2.ensures)
+    year_is c.args.bytes.now _ _ (rw c.in-Is.is at c.pair_at.ensures) (rw c.in-Is-pair_at.is at c.pair_at-2.ensures)

@@ -1,5 +1,4 @@
 -- The days are read element by element; those read so far are marked.
-use borrow.Author.Rules.{rules}
 use mathlib.Core.Path.{refl, sym, ◌∙◌}
 use mathlib.Core.Logic.{inl, inr}
 use mathlib.Core.Bool.{false}
@@ -13,20 +12,15 @@ use Rattle.read_fields.proofs.days.days_in.Goals as goal
 
 pub loop-left-init : goal.loop-left-init
 loop-left-init c =
-    let first-in = c.first_in-e in
-    days_start c.args.text.now c.args.at c.args.most first-in.result (replicate 29 false) c.args.first refl (no_marks 29) first-in.ensures
+    days_start c.args.text.now c.args.at c.args.most c.first_in-e.result (replicate 29 false) c.args.first refl (no_marks 29) c.first_in-e.ensures
 
 pub returns-then-at_end : goal.returns-then-at_end
 returns-then-at_end c =
-    let days-told = c.days_told in record { days_in = days_end c.args.text.now c.args.at c.args.most c.loop-left.e c.loop-left.left c.loop-left.stood c.loop-left.again c.args.first c.loop-left.used c.loop-left.invariant (inl (sym c.at_end.ensures ∙ c.if-at_end.true)) days-told.result days-told.ensures; counts_still = end_still c.args.text.now c.args.at c.args.most c.loop-left.e c.loop-left.left c.loop-left.stood c.loop-left.again c.args.first c.loop-left.used c.loop-left.invariant days-told.result days-told.ensures }
-
-pub enum_told-1 : goal.enum_told-1
-enum_told-1 c =
-    search rules
+    record { days_in = days_end c.args.text.now c.args.at c.args.most c.loop-left.e c.loop-left.left c.loop-left.stood c.loop-left.again c.args.first c.loop-left.used c.loop-left.invariant (inl (sym c.at_end.ensures ∙ c.if-at_end.true)) c.days_told.result c.days_told.ensures; counts_still = end_still c.args.text.now c.args.at c.args.most c.loop-left.e c.loop-left.left c.loop-left.stood c.loop-left.again c.args.first c.loop-left.used c.loop-left.invariant c.days_told.result c.days_told.ensures }
 
 pub returns-in_default : goal.returns-in_default
 returns-in_default c =
-    let integer-value = c.integer_value-f in record { days_in = days_refused c.args.text.now c.args.at c.args.most c.loop-left.e c.loop-left.left c.loop-left.stood c.loop-left.again c.args.first c.loop-left.used c.loop-left.invariant c.at_end.result c.at_end.ensures c.if-at_end.false integer-value.result integer-value.ensures.0 _ _ c.in_default.is; counts_still = λ n v e. none_counted (sym c.in_default.is ∙ e) }
+    record { days_in = days_refused c.args.text.now c.args.at c.args.most c.loop-left.e c.loop-left.left c.loop-left.stood c.loop-left.again c.args.first c.loop-left.used c.loop-left.invariant c.at_end.result c.at_end.ensures c.if-at_end.false c.integer_value-f.result c.integer_value-f.ensures.counts_at _ _ c.in_default.is; counts_still = λ n v e. none_counted (sym c.in_default.is ∙ e) }
 
 pub bounds-stood-day : goal.bounds-stood-day
 bounds-stood-day c =
@@ -46,11 +40,8 @@ loop-left-smaller c =
 
 pub loop-left-preserved : goal.loop-left-preserved
 loop-left-preserved c =
-    let loop-test = c.loop-left-test in
-    let integer-value = c.integer_value-f in
-    days_more c.args.text.now c.args.at c.args.most c.loop-left.e c.loop-left.left c.loop-left.stood c.loop-left.again c.args.first c.loop-left.used c.loop-left.invariant c.at_end.result c.at_end.ensures c.if-at_end.false integer-value.result integer-value.ensures.0 c.requires loop-test.true integer-value.ensures.1.0 integer-value.ensures.1.1 c.in-Is.d c.next_after-e.result c.in-Is.behind c.either-again.result c.in-Is.is c.next_after-e.ensures c.either-again.ensures
+    days_more c.args.text.now c.args.at c.args.most c.loop-left.e c.loop-left.left c.loop-left.stood c.loop-left.again c.args.first c.loop-left.used c.loop-left.invariant c.at_end.result c.at_end.ensures c.if-at_end.false c.integer_value-f.result c.integer_value-f.ensures.counts_at c.requires c.loop-left-test.true c.integer_value-f.ensures.counts_still c.integer_value-f.ensures.counts_within c.in-Is.d c.next_after-e.result c.in-Is.behind c.either-again.result c.in-Is.is c.next_after-e.ensures c.either-again.ensures
 
 pub returns : goal.returns
 returns c =
-    let loop-test = c.loop-left-test in
-    let days-told2 = c.days_told-2 in record { days_in = days_end c.args.text.now c.args.at c.args.most c.loop-left.e c.loop-left.left c.loop-left.stood c.loop-left.again c.args.first c.loop-left.used c.loop-left.invariant (inr (omega (arith, loop-test.false))) days-told2.result days-told2.ensures; counts_still = end_still c.args.text.now c.args.at c.args.most c.loop-left.e c.loop-left.left c.loop-left.stood c.loop-left.again c.args.first c.loop-left.used c.loop-left.invariant days-told2.result days-told2.ensures }
+    record { days_in = days_end c.args.text.now c.args.at c.args.most c.loop-left.e c.loop-left.left c.loop-left.stood c.loop-left.again c.args.first c.loop-left.used c.loop-left.invariant (inr (omega (arith, c.loop-left-test.false))) c.days_told-2.result c.days_told-2.ensures; counts_still = end_still c.args.text.now c.args.at c.args.most c.loop-left.e c.loop-left.left c.loop-left.stood c.loop-left.again c.args.first c.loop-left.used c.loop-left.invariant c.days_told-2.result c.days_told-2.ensures }

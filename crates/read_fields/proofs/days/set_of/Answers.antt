@@ -30,8 +30,7 @@ overflow_mul-power c =
 
 pub loop-k-preserved : goal.loop-k-preserved
 loop-k-preserved c =
-    let loop-test = c.loop-k-test in
-    gather_more c.args.stood.now c.loop-k.set c.loop-k.power c.loop-k.k c.part-set.result c.loop-k.invariant loop-test.true c.part-set.ensures
+    gather_more c.args.stood.now c.loop-k.set c.loop-k.power c.loop-k.k c.part-set.result c.loop-k.invariant c.loop-k-test.true c.part-set.ensures
 
 pub returns : goal.returns
 returns c =

@@ -11,17 +11,12 @@ returns-then-v-eq0 c =
 
 pub returns-then-is_null : goal.returns-then-is_null
 returns-then-is_null c =
-    let is-null = c.is_null in
-    λ f slot p l. absent_date c.args.text.now c.args.v _ l (absent_null c.args.text.now c.args.v (a_string date) f slot (sym is-null.ensures ∙ c.if-is_null.true) p l)
+    λ f slot p l. absent_date c.args.text.now c.args.v _ l (absent_null c.args.text.now c.args.v (a_string date) f slot (sym c.is_null.ensures ∙ c.if-is_null.true) p l)
 
 pub returns-then-not-is_text : goal.returns-then-not-is_text
 returns-then-not-is_text c =
-    let is-null = c.is_null in
-    let is-text = c.is_text in
-    λ f slot p l. string_given_refused c.args.text.now c.args.v date f slot c.if-v-eq0.false (sym is-null.ensures ∙ c.if-is_null.false) (sym is-text.ensures ∙ c.if-not-is_text.true) p l
+    λ f slot p l. string_given_refused c.args.text.now c.args.v date f slot c.if-v-eq0.false (sym c.is_null.ensures ∙ c.if-is_null.false) (sym c.is_text.ensures ∙ c.if-not-is_text.true) p l
 
 pub returns : goal.returns
 returns c =
-    let is-text = c.is_text in
-    let date-read = c.date_read in
-    date_given c.args.text.now c.args.v c.if-v-eq0.false (sym is-text.ensures ∙ c.if-not-is_text.false) date-read.result date-read.ensures
+    date_given c.args.text.now c.args.v c.if-v-eq0.false (sym c.is_text.ensures ∙ c.if-not-is_text.false) c.date_read.result c.date_read.ensures

@@ -1,5 +1,4 @@
 -- The bytes of a date are laid and judged, or had no room.
-use borrow.Author.Rules.{rules}
 use mathlib.Core.Path.{refl}
 use mathlib.Core.Option.{none}
 use native.Mathlib.Omega.{arith}
@@ -8,33 +7,26 @@ use Rattle.json_move.specs.Read.{decoded}
 use Rattle.read_fields.proofs.DateFields.{lies, lies_size, date_too_long, date_empty, date_is, date_is_not}
 use Rattle.read_fields.proofs.field.date_read.Goals as goal
 
-pub enum_told-1 : goal.enum_told-1
-enum_told-1 c =
-    search rules
-
 pub returns-in_default : goal.returns-in_default
 returns-in_default c =
     (date_too_long (replicate 25 0) (decoded (drop c.args.v c.args.text.now)) c.lay.result refl c.lay.ensures.value c.in_default.is, refl, refl)
 
 pub returns-then-n-eq0 : goal.returns-then-n-eq0
 returns-then-n-eq0 c =
-    (none, date_empty (lies (replicate 25 0) (decoded (drop c.args.v c.args.text.now)) c.lay.result refl c.lay.ensures.value c.lay.new.1.1.0 c.in-Behind.n c.lay.ensures.buffer_after c.in-Behind.is) c.if-n-eq0.true, refl)
+    (none, date_empty (lies (replicate 25 0) (decoded (drop c.args.v c.args.text.now)) c.lay.result refl c.lay.ensures.value c.lay.new.buffer c.in-Behind.n c.lay.ensures.buffer_after c.in-Behind.is) c.if-n-eq0.true, refl)
 
 pub slice_bounds-bytes-end : goal.slice_bounds-bytes-end
 slice_bounds-bytes-end c =
-    omega (arith, (lies (replicate 25 0) (decoded (drop c.args.v c.args.text.now)) c.lay.result refl c.lay.ensures.value c.lay.new.1.1.0 c.in-Behind.n c.lay.ensures.buffer_after c.in-Behind.is).fits, (lies (replicate 25 0) (decoded (drop c.args.v c.args.text.now)) c.lay.result refl c.lay.ensures.value c.lay.new.1.1.0 c.in-Behind.n c.lay.ensures.buffer_after c.in-Behind.is).whole)
+    omega (arith, (lies (replicate 25 0) (decoded (drop c.args.v c.args.text.now)) c.lay.result refl c.lay.ensures.value c.lay.new.buffer c.in-Behind.n c.lay.ensures.buffer_after c.in-Behind.is).fits, (lies (replicate 25 0) (decoded (drop c.args.v c.args.text.now)) c.lay.result refl c.lay.ensures.value c.lay.new.buffer c.in-Behind.n c.lay.ensures.buffer_after c.in-Behind.is).whole)
 
 pub slice_bounds-date_of-end : goal.slice_bounds-date_of-end
 slice_bounds-date_of-end c =
-    lies_size (lies (replicate 25 0) (decoded (drop c.args.v c.args.text.now)) c.lay.result refl c.lay.ensures.value c.lay.new.1.1.0 c.in-Behind.n c.lay.ensures.buffer_after c.in-Behind.is)
+    lies_size (lies (replicate 25 0) (decoded (drop c.args.v c.args.text.now)) c.lay.result refl c.lay.ensures.value c.lay.new.buffer c.in-Behind.n c.lay.ensures.buffer_after c.in-Behind.is)
 
 pub returns-in-Is : goal.returns-in-Is
 returns-in-Is c =
-    let date-of = c.date_of in
-    date_is (lies (replicate 25 0) (decoded (drop c.args.v c.args.text.now)) c.lay.result refl c.lay.ensures.value c.lay.new.1.1.0 c.in-Behind.n c.lay.ensures.buffer_after c.in-Behind.is) c.if-n-eq0.false date-of.result c.in-Is.d date-of.ensures c.in-Is.is
+    date_is (lies (replicate 25 0) (decoded (drop c.args.v c.args.text.now)) c.lay.result refl c.lay.ensures.value c.lay.new.buffer c.in-Behind.n c.lay.ensures.buffer_after c.in-Behind.is) c.if-n-eq0.false c.date_of.result c.in-Is.d c.date_of.ensures c.in-Is.is
 
 pub returns-in-Not : goal.returns-in-Not
 returns-in-Not c =
-    let date-of = c.date_of in
-    let enum-told2 = c.enum_told-in-Not-1 in
-    (date_is_not (lies (replicate 25 0) (decoded (drop c.args.v c.args.text.now)) c.lay.result refl c.lay.ensures.value c.lay.new.1.1.0 c.in-Behind.n c.lay.ensures.buffer_after c.in-Behind.is) c.if-n-eq0.false date-of.result date-of.ensures enum-told2.given.1, refl, refl)
+    (date_is_not (lies (replicate 25 0) (decoded (drop c.args.v c.args.text.now)) c.lay.result refl c.lay.ensures.value c.lay.new.buffer c.in-Behind.n c.lay.ensures.buffer_after c.in-Behind.is) c.if-n-eq0.false c.date_of.result c.date_of.ensures c.in-Not.is, refl, refl)

@@ -10,11 +10,8 @@ returns-then-v-eq0 c =
 
 pub returns-then-is_null : goal.returns-then-is_null
 returns-then-is_null c =
-    let is-null = c.is_null in
-    λ h f slot l. missing_null c.args.text.now c.args.v c.args.brace (a_number (decimal c.args.least)) f h slot (sym is-null.ensures ∙ c.if-is_null.true) l
+    λ h f slot l. missing_null c.args.text.now c.args.v c.args.brace (a_number (decimal c.args.least)) f h slot (sym c.is_null.ensures ∙ c.if-is_null.true) l
 
 pub returns : goal.returns
 returns c =
-    let is-null = c.is_null in
-    let decimal-value = c.decimal_value in
-    λ h. number_needed c.args.text.now c.args.v c.if-v-eq0.false (sym is-null.ensures ∙ c.if-is_null.false) (decimal c.args.least) c.args.brace decimal-value.result decimal-value.ensures
+    λ h. number_needed c.args.text.now c.args.v c.if-v-eq0.false (sym c.is_null.ensures ∙ c.if-is_null.false) (decimal c.args.least) c.args.brace c.decimal_value.result c.decimal_value.ensures

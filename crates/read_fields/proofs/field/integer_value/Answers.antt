@@ -7,8 +7,8 @@ use Rattle.read_fields.proofs.field.integer_value.Goals as goal
 
 pub returns-then-not-is_number : goal.returns-then-not-is_number
 returns-then-not-is_number c =
-    let p = (number_not_counted _ _ _ _ _ c.is_number.ensures (ap not c.if-not-is_number.true), (λ n v e. none_counted e, λ n v e. none_counted e)) in record { counts_at = p.0; counts_still = p.1; counts_within = p.2 }
+    record { counts_at = number_not_counted _ _ _ _ _ c.is_number.ensures (ap not c.if-not-is_number.true); counts_still = λ n v e. none_counted e; counts_within = λ n v e. none_counted e }
 
 pub returns : goal.returns
 returns c =
-    let p = (integer_counts _ _ _ _ _ _ _ c.is_number.ensures (ap not c.if-not-is_number.false) c.integer_read.ensures, (read_still c.args.v c.args.used _ _ _ _ c.integer_read.ensures, read_within c.args.v c.args.used _ _ _ _ c.integer_read.ensures)) in record { counts_at = p.0; counts_still = p.1; counts_within = p.2 }
+    record { counts_at = integer_counts _ _ _ _ _ _ _ c.is_number.ensures (ap not c.if-not-is_number.false) c.integer_read.ensures; counts_still = read_still c.args.v c.args.used _ _ _ _ c.integer_read.ensures; counts_within = read_within c.args.v c.args.used _ _ _ _ c.integer_read.ensures }

@@ -10,4 +10,4 @@ returns-in-Array c =
 
 pub returns-in_default : goal.returns-in_default
 returns-in_default c =
-    not_array c.kind_at.result c.in_default.in_default-own.keys2 ∙ ap is_array c.kind_at.ensures
+    not_array c.kind_at.result c.in_default.not-Array ∙ ap is_array c.kind_at.ensures

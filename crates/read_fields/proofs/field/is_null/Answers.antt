@@ -10,4 +10,4 @@ returns-in-Null c =
 
 pub returns-in_default : goal.returns-in_default
 returns-in_default c =
-    not_null c.kind_at.result c.in_default.in_default-own.keys2 ∙ ap is_null c.kind_at.ensures
+    not_null c.kind_at.result c.in_default.not-Null ∙ ap is_null c.kind_at.ensures

@@ -10,4 +10,4 @@ returns-in-Number c =
 
 pub returns-in_default : goal.returns-in_default
 returns-in_default c =
-    not_number c.kind_at.result c.in_default.in_default-own.keys2 ∙ ap is_number c.kind_at.ensures
+    not_number c.kind_at.result c.in_default.not-Number ∙ ap is_number c.kind_at.ensures

@@ -10,4 +10,4 @@ returns-in-Object c =
 
 pub returns-in_default : goal.returns-in_default
 returns-in_default c =
-    not_object c.kind_at.result c.in_default.in_default-own.keys2 ∙ ap is_object c.kind_at.ensures
+    not_object c.kind_at.result c.in_default.not-Object ∙ ap is_object c.kind_at.ensures

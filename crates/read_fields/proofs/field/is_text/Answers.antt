@@ -10,4 +10,4 @@ returns-in-Text c =
 
 pub returns-in_default : goal.returns-in_default
 returns-in_default c =
-    not_text c.kind_at.result c.in_default.in_default-own.keys2 ∙ ap is_text c.kind_at.ensures
+    not_text c.kind_at.result c.in_default.not-Text ∙ ap is_text c.kind_at.ensures

@@ -15,4 +15,4 @@ returns-then-is_null c =
 
 pub returns : goal.returns
 returns c =
-    record { counts_optional = number_given c.args.text.now c.args.v c.if-v-eq0.false (sym c.is_null.ensures ∙ c.if-is_null.false) (integer c.args.least c.args.most) c.args.absent c.args.used c.integer_value.result c.integer_value.ensures.counts_at; counts_still = c.integer_value.ensures.counts_still.0 }
+    record { counts_optional = number_given c.args.text.now c.args.v c.if-v-eq0.false (sym c.is_null.ensures ∙ c.if-is_null.false) (integer c.args.least c.args.most) c.args.absent c.args.used c.integer_value.result c.integer_value.ensures.counts_at; counts_still = c.integer_value.ensures.counts_still }

@@ -11,17 +11,12 @@ returns-then-v-eq0 c =
 
 pub returns-then-is_null : goal.returns-then-is_null
 returns-then-is_null c =
-    let is-null = c.is_null in
-    λ h f slot l. missing_null c.args.text.now c.args.v c.args.brace (a_string time) f h slot (sym is-null.ensures ∙ c.if-is_null.true) l
+    λ h f slot l. missing_null c.args.text.now c.args.v c.args.brace (a_string time) f h slot (sym c.is_null.ensures ∙ c.if-is_null.true) l
 
 pub returns-then-not-is_text : goal.returns-then-not-is_text
 returns-then-not-is_text c =
-    let is-null = c.is_null in
-    let is-text = c.is_text in
-    λ h f slot l. string_needed_refused c.args.text.now c.args.v c.args.brace time f slot c.if-v-eq0.false (sym is-null.ensures ∙ c.if-is_null.false) (sym is-text.ensures ∙ c.if-not-is_text.true) l
+    λ h f slot l. string_needed_refused c.args.text.now c.args.v c.args.brace time f slot c.if-v-eq0.false (sym c.is_null.ensures ∙ c.if-is_null.false) (sym c.is_text.ensures ∙ c.if-not-is_text.true) l
 
 pub returns : goal.returns
 returns c =
-    let is-text = c.is_text in
-    let time-read = c.time_read in
-    λ h. time_needed c.args.text.now c.args.v c.if-v-eq0.false (sym is-text.ensures ∙ c.if-not-is_text.false) c.args.brace h time-read.result time-read.ensures
+    λ h. time_needed c.args.text.now c.args.v c.if-v-eq0.false (sym c.is_text.ensures ∙ c.if-not-is_text.false) c.args.brace h c.time_read.result c.time_read.ensures

@@ -1,5 +1,4 @@
 -- The bytes of a time are laid and judged, or had no room.
-use borrow.Author.Rules.{rules}
 use mathlib.Core.Path.{refl}
 use native.Mathlib.Omega.{arith}
 use lib.ListN.{drop, replicate}
@@ -7,33 +6,26 @@ use Rattle.json_move.specs.Read.{decoded}
 use Rattle.read_fields.proofs.DateFields.{lies, lies_size, time_too_long, time_empty, time_is, time_is_not}
 use Rattle.read_fields.proofs.field.time_read.Goals as goal
 
-pub enum_told-1 : goal.enum_told-1
-enum_told-1 c =
-    search rules
-
 pub returns-in_default : goal.returns-in_default
 returns-in_default c =
     time_too_long (replicate 25 0) (decoded (drop c.args.v c.args.text.now)) c.lay.result refl c.lay.ensures.value c.args.brace c.args.v c.in_default.is
 
 pub returns-then-n-eq0 : goal.returns-then-n-eq0
 returns-then-n-eq0 c =
-    time_empty (lies (replicate 25 0) (decoded (drop c.args.v c.args.text.now)) c.lay.result refl c.lay.ensures.value c.lay.new.1.1.0 c.in-Behind.n c.lay.ensures.buffer_after c.in-Behind.is) c.args.brace c.args.v c.if-n-eq0.true
+    time_empty (lies (replicate 25 0) (decoded (drop c.args.v c.args.text.now)) c.lay.result refl c.lay.ensures.value c.lay.new.buffer c.in-Behind.n c.lay.ensures.buffer_after c.in-Behind.is) c.args.brace c.args.v c.if-n-eq0.true
 
 pub slice_bounds-bytes-end : goal.slice_bounds-bytes-end
 slice_bounds-bytes-end c =
-    omega (arith, (lies (replicate 25 0) (decoded (drop c.args.v c.args.text.now)) c.lay.result refl c.lay.ensures.value c.lay.new.1.1.0 c.in-Behind.n c.lay.ensures.buffer_after c.in-Behind.is).fits, (lies (replicate 25 0) (decoded (drop c.args.v c.args.text.now)) c.lay.result refl c.lay.ensures.value c.lay.new.1.1.0 c.in-Behind.n c.lay.ensures.buffer_after c.in-Behind.is).whole)
+    omega (arith, (lies (replicate 25 0) (decoded (drop c.args.v c.args.text.now)) c.lay.result refl c.lay.ensures.value c.lay.new.buffer c.in-Behind.n c.lay.ensures.buffer_after c.in-Behind.is).fits, (lies (replicate 25 0) (decoded (drop c.args.v c.args.text.now)) c.lay.result refl c.lay.ensures.value c.lay.new.buffer c.in-Behind.n c.lay.ensures.buffer_after c.in-Behind.is).whole)
 
 pub slice_bounds-time_of-end : goal.slice_bounds-time_of-end
 slice_bounds-time_of-end c =
-    lies_size (lies (replicate 25 0) (decoded (drop c.args.v c.args.text.now)) c.lay.result refl c.lay.ensures.value c.lay.new.1.1.0 c.in-Behind.n c.lay.ensures.buffer_after c.in-Behind.is)
+    lies_size (lies (replicate 25 0) (decoded (drop c.args.v c.args.text.now)) c.lay.result refl c.lay.ensures.value c.lay.new.buffer c.in-Behind.n c.lay.ensures.buffer_after c.in-Behind.is)
 
 pub returns-in-Is : goal.returns-in-Is
 returns-in-Is c =
-    let time-of = c.time_of in
-    time_is (lies (replicate 25 0) (decoded (drop c.args.v c.args.text.now)) c.lay.result refl c.lay.ensures.value c.lay.new.1.1.0 c.in-Behind.n c.lay.ensures.buffer_after c.in-Behind.is) c.if-n-eq0.false c.args.brace c.args.v time-of.result c.in-Is.s time-of.ensures c.in-Is.is
+    time_is (lies (replicate 25 0) (decoded (drop c.args.v c.args.text.now)) c.lay.result refl c.lay.ensures.value c.lay.new.buffer c.in-Behind.n c.lay.ensures.buffer_after c.in-Behind.is) c.if-n-eq0.false c.args.brace c.args.v c.time_of.result c.in-Is.s c.time_of.ensures c.in-Is.is
 
 pub returns-in-Not : goal.returns-in-Not
 returns-in-Not c =
-    let time-of = c.time_of in
-    let enum-told2 = c.enum_told-in-Not-1 in
-    time_is_not (lies (replicate 25 0) (decoded (drop c.args.v c.args.text.now)) c.lay.result refl c.lay.ensures.value c.lay.new.1.1.0 c.in-Behind.n c.lay.ensures.buffer_after c.in-Behind.is) c.if-n-eq0.false c.args.brace c.args.v time-of.result time-of.ensures enum-told2.given.1
+    time_is_not (lies (replicate 25 0) (decoded (drop c.args.v c.args.text.now)) c.lay.result refl c.lay.ensures.value c.lay.new.buffer c.in-Behind.n c.lay.ensures.buffer_after c.in-Behind.is) c.if-n-eq0.false c.args.brace c.args.v c.time_of.result c.time_of.ensures c.in-Not.is
