@@ -18,7 +18,7 @@ use Rattle.document.specs.Write.{in_greatest_room}
 use Rattle.demands.proofs.Refusals.{refusals_of_read}
 use Rattle.shelf_list.specs.Shelf.{Entry, entry, is_number, size, used}
 use Rattle.shelf_list.specs.Calls.{Call, put, fetch, remove, at, Answer, stored, fetched, removed, standing, refused, Outcome, under, fetch_under, fetch_from, fetch_answer, on_list, for_fetch}
-use Rattle.shelf_list.specs.Grounds.{NoNumber, put_under, fetch_under, remove_under, AlreadyThere, for_put, NotThere, for_fetched, for_remove, NotRead, text_put, text_fetched, NoRoom, too_long, Taken, put_taken}
+use Rattle.shelf_list.specs.Grounds.{NoNumber, put_under, fetch_of, remove_of, AlreadyThere, for_put, NotThere, for_fetched, for_remove, NotRead, text_put, text_fetched, NoRoom, too_long, Taken, put_taken}
 use Rattle.shelf_list.proofs.Under.{none_under, under_none}
 use Rattle.shelf_list.proofs.Ends.{Put, no_number, there, unread, no_room, laid, put_ends, Remove, not_number, not_there, taken_out, remove_ends}
 
@@ -57,10 +57,10 @@ fetch_ground n es number room = go (is_number number) (under number es) refl ref
         → Ground n es (fetch number room) (fetch_answer (choose b (λ _. fetch_under o room) (λ _. R.refused 21 0)))
     go true none i u = refusing (of_23 (for_fetched i (none_under number es u)))
     go true (some p) i u = reads p (read (for_fetch room) (plain p)) i u refl
-    go false o i u = refusing (of_21 (fetch_under i))
+    go false o i u = refusing (of_21 (fetch_of i))
 
 remove_ground : {n number : ℕ} {es : List Entry} {o : Outcome (List Entry)} → Remove es number o → Ground n es (remove number) o.answer
-remove_ground (not_number i) = refusing (of_21 (remove_under i))
+remove_ground (not_number i) = refusing (of_21 (remove_of i))
 remove_ground (not_there i s) = refusing (of_23 (for_remove i s))
 remove_ground (taken_out i s) = removing
 
@@ -142,8 +142,8 @@ module _ {n : ℕ} {es : List Entry} {c : Call} where
 pub gives_21 : (n : ℕ) {c : Call} (es : List Entry) → NoNumber c → (on_list n c es).answer ≡ refused 21 0
 unfolding on_list
 gives_21 n es (put_under i) = rw i
-gives_21 n es (fetch_under i) = rw i
-gives_21 n es (remove_under i) = rw i
+gives_21 n es (fetch_of i) = rw i
+gives_21 n es (remove_of i) = rw i
 
 pub gives_22 : (n : ℕ) {c : Call} (es : List Entry) → AlreadyThere es c → (on_list n c es).answer ≡ refused 22 0
 unfolding on_list

@@ -12,8 +12,8 @@ use Rattle.shelf_list.specs.Calls.{Call, put, fetch, remove, under, for_fetch}
 -- "21 number 0", and one above 65,535
 pub data NoNumber : Call → Type 0 where
   put_under : {number purpose : ℕ} {text : List ℕ} → is_number number ≡ false → NoNumber (put number purpose text)
-  fetch_under : {number room : ℕ} → is_number number ≡ false → NoNumber (fetch number room)
-  remove_under : {number : ℕ} → is_number number ≡ false → NoNumber (remove number)
+  fetch_of : {number room : ℕ} → is_number number ≡ false → NoNumber (fetch number room)
+  remove_of : {number : ℕ} → is_number number ≡ false → NoNumber (remove number)
 
 -- "22 number already there"
 pub data AlreadyThere (es : List Entry) : Call → Type 0 where

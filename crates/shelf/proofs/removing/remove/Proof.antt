@@ -1,6 +1,6 @@
 -- A refusal, or the gap closed.
 use mathlib.Core.Path.{refl}
-use Rattle.shelf_list.specs.Grounds.{remove_from_lem}
+use Rattle.shelf_list.specs.Grounds.{remove_of}
 use Rattle.shelf.proofs.Surveyed.{refused_not, not_there, record_there, there_stands}
 use Rattle.shelf.proofs.Serving.{refuses_first, removes_none, removes}
 use Rattle.shelf_list.specs.Calls.{remove}
@@ -21,7 +21,7 @@ returns : tie.Need-returns
 returns c =
     let told = c.before.before in
     let s = told.before.before.before.before.args in
-    refuses_first (remove s.number) s.area.now s.number 0 _ remove_from_lem told.go-over.ensures _ c.before.refusal.ensures
+    refuses_first (remove s.number) s.area.now s.number 0 _ remove_of told.go-over.ensures _ c.before.refusal.ensures
     c.if1.true refl
 
 same-length-2 : tie.Need-same-length-2
