@@ -10,10 +10,10 @@ use document::terms::{Terms, Used};
 use read_fields::field;
 use read_fields::field::{Counted, Field, Found};
 use read_names::{DO, DT, S, Unknown};
-use read_type::opened;
-use read_type::opened::{Object, Opened};
 use read_records::rows;
 use read_records::rows::{Visit, up_counted, up_found};
+use read_type::opened;
+use read_type::opened::{Object, Opened};
 
 // The name that only one of two objects read alike has.
 pub(crate) fn name_of(first: bool, a: usize, b: usize) -> usize

@@ -9,10 +9,10 @@ use document::terms::{Terms, Used};
 use read_fields::field;
 use read_fields::field::{Counted, Field, Found};
 use read_names::{A, A_FROM, A_MAX, A_MIN, A_TO, DU, DU_U, T, Unknown};
-use read_type::opened;
-use read_type::opened::{Object, Opened};
 use read_records::rows;
 use read_records::rows::{Visit, up, up_counted, up_found};
+use read_type::opened;
+use read_type::opened::{Object, Opened};
 
 const SIMPLE: [usize; 2] = [T, A];
 

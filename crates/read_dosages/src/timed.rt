@@ -14,11 +14,11 @@ use document::terms::{Terms, Used};
 use read_fields::field::{Counted, Found};
 use read_fields::{days, field};
 use read_names::{DO, DOMS, MI_DU, MI_DU_U, SS, T, TDO, TS, Unknown, WDS};
-use read_type::opened;
-use read_type::opened::{Object, Opened, Opening};
 use read_records::allowed::{UNDER_DAYS, UNDER_MONTHS};
 use read_records::rows::{Visit, up_counted, up_found};
 use read_records::{allowed, rows};
+use read_type::opened;
+use read_type::opened::{Object, Opened, Opening};
 
 const DOSAGE_ONLY: [usize; 2] = [T, DO];
 

@@ -15,7 +15,7 @@ pub record_laid : {before after : List ℕ} {from r : ℕ} (number : ℕ) (text 
     → after ≡ sets before from (record_bytes number text)
 record_laid {before} {from = from} number text f l p =
     let e : p.bytes ≡ record_bytes number text =
-    sym (append-nil p.bytes) ∙ sym p.in-front
+    sym (append-nil p.bytes) ∙ sym p.in_front
     ∙ ap (λ (t : List ℕ). 0x50 ∷ 0x6F ∷ low_bytes number (low_bytes (length text) t)) (append-nil text) in
     p.laid f l ∙ ap (sets before from) e
 

@@ -1,0 +1,12 @@
+-- What was passed has been moved.
+use mathlib.Core.Path.{◌≡◌}
+use Prim.Native.Nat.{◌+◌, ◌≤◌, ◌-◌}
+use lib.ListN.{length}
+use Rattle.shelf_bytes.proofs.GapLaws.{moved}
+use Rattle.shelf_bytes.proofs.gaps.move_down.Given as goal
+
+abbrev pub invariant-loop-i : goal.invariant-loop-i
+invariant-loop-i l = (l.from + l.by ≤ l.i) × (l.i ≤ length l.initial.area) × (length l.area ≡ length l.initial.area) × (l.area ≡ moved l.initial.area l.from l.by l.i)
+
+abbrev pub decreases-loop-i : goal.decreases-loop-i
+decreases-loop-i l = length l.initial.area - l.i
