@@ -15,11 +15,11 @@ use read_fields::field::{Counted, Found, Worded};
 use read_fields::four::Fours;
 use read_fields::{field, four};
 use read_names::{CY_DU, CY_DU_U, DS, DU, DU_U, PO, SOS, T, TDO, TDPC, TEXT, Unknown};
-use read_type::opened;
-use read_type::opened::{Object, Opened};
 use read_records::allowed::UNDER_SINGLE;
 use read_records::rows::{Visit, up_counted, up_found, up_four, up_worded};
 use read_records::{allowed, rows};
+use read_type::opened;
+use read_type::opened::{Object, Opened};
 
 // "at most 3 sequences inside one another"
 const SEQUENCES: usize = 3;
@@ -159,7 +159,7 @@ fn pause(text: &[u8], at: usize, o: Object, terms: Terms, used: Used, words: &mu
     rows::store(words, i, used, 16, du, unit, 0, 0)
 }
 
-#[cycle(open_sequence_posology_sequence_read_detail_read_objects_read_sequence_read_sequence_object_visit_detail)]
+#[cycle(details)]
 fn posology_sequence(
     text: &[u8],
     at: usize,
@@ -175,7 +175,13 @@ fn posology_sequence(
 {
     let i = used.records;
     let slots = o.slots;
-    if let Unknown::At(q) = read_names::unknown_name(text, at, o.members, &slots, &POSOLOGY_SEQUENCE) {
+    if let Unknown::At(q) = read_names::unknown_name(
+        text,
+        at,
+        o.members,
+        &slots,
+        &POSOLOGY_SEQUENCE,
+    ) {
         return Visit::Refused(5, q);
     }
     let f = field::integer_field(text, at, slots[DU], 1, 99999, terms::one_more(used));
@@ -194,7 +200,7 @@ fn posology_sequence(
 }
 
 // One object of a sequence.
-#[cycle(open_sequence_posology_sequence_read_detail_read_objects_read_sequence_read_sequence_object_visit_detail)]
+#[cycle(details)]
 fn read_sequence_object(
     text: &[u8],
     at: usize,
@@ -223,7 +229,7 @@ fn read_sequence_object(
 }
 
 // The objects of the sequence's list at `at`.
-#[cycle(open_sequence_posology_sequence_read_detail_read_objects_read_sequence_read_sequence_object_visit_detail)]
+#[cycle(details)]
 fn read_objects(
     text: &[u8],
     at: usize,
@@ -256,7 +262,7 @@ fn read_objects(
 }
 
 // A sequence: so many may still open inside it.
-#[cycle(open_sequence_posology_sequence_read_detail_read_objects_read_sequence_read_sequence_object_visit_detail)]
+#[cycle(details)]
 fn read_sequence(
     text: &[u8],
     at: usize,
@@ -290,7 +296,7 @@ fn read_sequence(
 }
 
 // 14 where no sequence may open, 15 where no record is left.
-#[cycle(open_sequence_posology_sequence_read_detail_read_objects_read_sequence_read_sequence_object_visit_detail)]
+#[cycle(details)]
 fn open_sequence(
     text: &[u8],
     at: usize,
@@ -337,7 +343,7 @@ fn plain_detail(
 }
 
 // The detail at `at`: so many sequences may still open.
-#[cycle(open_sequence_posology_sequence_read_detail_read_objects_read_sequence_read_sequence_object_visit_detail)]
+#[cycle(details)]
 fn visit_detail(
     text: &[u8],
     at: usize,
@@ -368,7 +374,7 @@ fn visit_detail(
 }
 
 // The detail that must stand at v in the object at `brace`.
-#[cycle(open_sequence_posology_sequence_read_detail_read_objects_read_sequence_read_sequence_object_visit_detail)]
+#[cycle(details)]
 fn read_detail(
     text: &[u8],
     brace: usize,
