@@ -6,4 +6,5 @@ use Rattle.table_strings.proofs.head_text.Goals as goal
 pub returns : goal.returns
 unfolding head_text head_at
 returns c =
-    rw (← c.field_text.ensures) (let p = c.part.ensures in record { bytes = p.0; place = p.1 })
+    let e = c.field_text.ensures in
+    record { bytes = rw (← e) c.part.ensures.bytes; place = rw (← e) c.part.ensures.place }
