@@ -1,5 +1,4 @@
 -- The words of unused records, to the end.
-use Prim.Native.Nat.{◌-◌}
 use native.Mathlib.Omega.{arith}
 use Rattle.document.specs.Table.{no_record}
 use Rattle.document.specs.Words.{record_words}

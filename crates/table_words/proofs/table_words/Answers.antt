@@ -1,7 +1,5 @@
 use mathlib.Core.Path.{refl}
-use Prim.Native.Nat.{◌-◌}
 use native.Mathlib.Omega.{arith}
-use lib.ListN.{length-map}
 use Rattle.table_words.proofs.Laid.{one_more, all_laid}
 use Rattle.table_words.proofs.table_words.Goals as goal
 
@@ -11,8 +9,8 @@ loop-i-init c =
 
 pub loop-i-preserved : goal.loop-i-preserved
 loop-i-preserved c =
-    rw c.put.ensures (one_more c.args.t.records c.loop-i.out c.loop-i.i c.kind_words-w.result (simp length-map at c.well_formed.0.1.1.1.1.1.0.1.0.1) c.loop-i-test.true c.loop-i.invariant c.kind_words-w.ensures)
+    rw c.put.ensures (one_more c.args.t.records c.loop-i.out c.loop-i.i c.kind_words-w.result c.well_formed.0.1.1.1.1.1.0.1.0.1 c.loop-i-test.true c.loop-i.invariant c.kind_words-w.ensures)
 
 pub returns : goal.returns
 returns c =
-    all_laid _ _ _ (simp length-map at c.well_formed.0.1.1.1.1.1.0.1.0.1) c.loop-i-test.false c.loop-i.invariant
+    all_laid _ _ _ c.well_formed.0.1.1.1.1.1.0.1.0.1 c.loop-i-test.false c.loop-i.invariant
