@@ -130,6 +130,9 @@ pub fn lay_words(h: Head, count: usize, text: usize, words: &[u64; WORDS], area:
 pub fn lay(t: Table, area: &mut [u8])
     ensures { area.new ≡ cond (eqb (length area.old) area_bytes) (area_of t) area.old }
 {
+    let head = t.head;
+    let count = t.count;
+    let text = t.text;
     let records = table_words::table_words(t);
-    lay_words(t.head, t.count, t.text, &records, area);
+    lay_words(head, count, text, &records, area);
 }
