@@ -1,20 +1,16 @@
 -- Numbers are compared one after another, up to the first that differ.
 use mathlib.Core.Path.{refl, sym, ◌∙◌}
 use native.Mathlib.Omega.{arith}
-use Rattle.c_area_back.proofs.Same.{same_on, same_ended, same_not}
+use Rattle.c_area_back.proofs.Same.{same_on, same_ended}
 use Rattle.c_area_back.proofs.same_numbers.Goals as goal
 
 pub loop-i-init : goal.loop-i-init
 loop-i-init c =
     (omega arith, refl)
 
-pub returns-then-a-i : goal.returns-then-a-i
-returns-then-a-i c =
-    sym (same_not c.args.a.now c.args.b.now c.loop-i.i (omega arith) (omega arith) c.if-a-i.true) ∙ c.loop-i.invariant.1
-
 pub loop-i-preserved : goal.loop-i-preserved
 loop-i-preserved c =
-    (omega arith, same_on c.args.a.now c.args.b.now c.loop-i.i (omega arith) (omega arith) c.if-a-i.false ∙ c.loop-i.invariant.1)
+    (omega arith, same_on c.args.a.now c.args.b.now c.loop-i.i (omega arith) (omega arith) (omega arith) ∙ c.loop-i.invariant.1)
 
 pub returns : goal.returns
 returns c =
