@@ -9,8 +9,8 @@ ghost use Rattle.write_details.specs.Prints.{Prints, Lists, DetailPrints, Object
 
 use crate::{dosage, timed};
 use document::table::RECORDS;
-use write_numbers;
 use write_bytes;
+use write_numbers;
 use write_strings;
 
 fn put_daily(words: &[u64], i: usize, out: &mut [u8], from: usize) -> usize
@@ -85,7 +85,7 @@ fn put_pause(words: &[u64], i: usize, out: &mut [u8], from: usize) -> usize
     write_bytes::put(out, at, b'}')
 }
 
-#[cycle(put_detail_put_object_put_objects_put_sequence)]
+#[cycle(details)]
 fn put_object(
     words: &[u64],
     i: usize,
@@ -108,7 +108,7 @@ fn put_object(
 }
 
 // The objects from record i on, up to `end`, with commas between them.
-#[cycle(put_detail_put_object_put_objects_put_sequence)]
+#[cycle(details)]
 fn put_objects(
     words: &[u64],
     i: usize,
@@ -131,7 +131,7 @@ fn put_objects(
     at
 }
 
-#[cycle(put_detail_put_object_put_objects_put_sequence)]
+#[cycle(details)]
 fn put_sequence(
     words: &[u64],
     i: usize,
@@ -153,7 +153,7 @@ fn put_sequence(
 }
 
 // The detail of record i, in which so many sequences may still open.
-#[cycle(put_detail_put_object_put_objects_put_sequence)]
+#[cycle(details)]
 fn put_detail(
     words: &[u64],
     i: usize,

@@ -6,8 +6,8 @@ ghost use Rattle.table_rows.specs.Standing.{tag_at};
 ghost use Rattle.write_bytes.specs.Puts.{Puts};
 ghost use Rattle.write_details.specs.Prints.{Prints, Opens, Lists, DosagePrints, ApplicationPrints, ApplicationsPrint};
 
-use write_numbers;
 use write_bytes;
+use write_numbers;
 
 // A name with what stands in front of it and its colon, and an integer.
 pub fn put_integer(out: &mut [u8], from: usize, name: &[u8], n: u64) -> usize

@@ -9,8 +9,8 @@ ghost use Rattle.write_bytes.specs.Puts.{Puts};
 ghost use Rattle.write_details.specs.Prints.{Prints, DosagePrints, ApplicationsPrint, PlainPrints, TimedPrints};
 
 use crate::dosage;
-use write_numbers;
 use write_bytes;
+use write_numbers;
 
 const LAST_WEEKDAY: u64 = 7;
 

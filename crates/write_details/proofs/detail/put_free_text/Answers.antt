@@ -1,0 +1,6 @@
+use Rattle.write_details.proofs.Details.{prints_free_text}
+use Rattle.write_details.proofs.detail.put_free_text.Goals as goal
+
+pub returns : goal.returns
+returns c left h =
+    prints_free_text h c.a.ensures.here c.b.ensures.here c.part-text.ensures c.put_all-at.ensures c.put_string-at.ensures c.put.ensures
