@@ -9,10 +9,10 @@ ghost use Rattle.write_bytes.specs.Puts.{Puts};
 ghost use Rattle.write_details.specs.Prints.{DetailPrints};
 ghost use Rattle.write_posology.specs.Heads.{date_field, reserve_field, meal_field, text_field, string_fields, front_fields, head_fields, Within, Writable};
 
-use write_details;
 use document::table::{Date, Head, Text};
-use write_numbers;
 use write_bytes;
+use write_details;
+use write_numbers;
 use write_strings;
 
 fn put_day(out: &mut [u8], from: usize, year: u16, month: u8, day: u8) -> usize
