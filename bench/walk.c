@@ -1,4 +1,4 @@
-/* Times the walk (crate walk) beside the same loops written in C, on texts of 32,768 bytes. Built and run by bench/walk. */
+/* Times the walk (crate json_walk) beside the same loops written in C, on texts of 32,768 bytes. Built and run by bench/walk. */
 #include <stdint.h>
 #include <stdio.h>
 #include <string.h>

@@ -11,7 +11,7 @@
  *   - a buffer that is written (`strings`, `table`, `out`, `*place`, `*number`, and the `area` of posology_shelf_put and posology_shelf_remove) shares no
  *     byte with any other buffer of the call; posology_shelf_fetch and posology_shelf_at only read the area;
  *   - the calling thread has 64 KB of stack left for posology_read, posology_next, posology_write and posology_length, and 128 KB for the four of the shelf (32 KB and
- *     63 KB are the most that was seen used: measured, not proved).
+ *     63 KB are the most that was seen used, of the library that an older kit built: measured, not proved).
  *
  * Nothing else is asked. Any bytes may be in any buffer, a length may be any, and a use or a number, too, is tested.
  */
