@@ -6,8 +6,8 @@ ghost use Rattle.check_doses.specs.Doses.{Decides};
 ghost use Rattle.check_table.specs.Checks.{Checks, StringAt, FreeTextAt, DetailAt, ObjectAt, ObjectsAt, SequenceAt, Zeros};
 
 use crate::utf8;
-use document::table::{WIDTH, WORDS};
 use check_doses::{MOST_BELOW, MOST_INTEGER, nested, row, still};
+use document::table::{WIDTH, WORDS};
 use table_rows::below;
 
 // The text bytes taken with what was checked; or that it is none.
@@ -83,7 +83,7 @@ fn free_text(words: &[u64; WORDS], i: usize, buffer: &[u8], text: usize) -> bool
 }
 
 // One object of a sequence at i.
-#[cycle(detail_object_objects_sequence)]
+#[cycle(details)]
 fn object(words: &[u64; WORDS], i: usize, left: usize, buffer: &[u8], text: usize) -> Checked
     ensures { Checks (λ u. ObjectAt words.now buffer.now left i text u) result }
 {
@@ -130,7 +130,7 @@ fn object(words: &[u64; WORDS], i: usize, left: usize, buffer: &[u8], text: usiz
 }
 
 // The objects from i on, up to record `end`: at least one.
-#[cycle(detail_object_objects_sequence)]
+#[cycle(details)]
 fn objects(
     words: &[u64; WORDS],
     i: usize,
@@ -167,7 +167,7 @@ fn objects(
     }
 }
 
-#[cycle(detail_object_objects_sequence)]
+#[cycle(details)]
 fn sequence(words: &[u64; WORDS], i: usize, left: usize, buffer: &[u8], text: usize) -> Checked
     ensures { Checks (λ u. SequenceAt words.now buffer.now left i text u) result }
 {
@@ -190,7 +190,7 @@ fn sequence(words: &[u64; WORDS], i: usize, left: usize, buffer: &[u8], text: us
 }
 
 // A detail at i, in which so many sequences may still open.
-#[cycle(detail_object_objects_sequence)]
+#[cycle(details)]
 pub(crate) fn detail(
     words: &[u64; WORDS],
     i: usize,

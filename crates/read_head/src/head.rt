@@ -8,14 +8,16 @@ ghost use Rattle.read_dosages.specs.Kept.{Ready};
 use document::table::{Date, MEAL_CODES, RECORDS, WORDS};
 use document::terms::{Terms, Used};
 use document::{moments, terms};
+use read_details::detail;
 use read_fields::field;
 use read_fields::field::{Counted, DateField, Field, Worded};
-use read_names::{APPL_INSTR, DT_FROM, DT_TO, IN_RES, MOA, NAMES, PO, REL_MEAL, ROA, UNIT, Unknown};
-use read_type::opened;
-use read_type::opened::Opened;
+use read_names::{
+    APPL_INSTR, DT_FROM, DT_TO, IN_RES, MOA, NAMES, PO, REL_MEAL, ROA, UNIT, Unknown,
+};
 use read_records::read::{HeadRead, Piece};
 use read_records::rows::Visit;
-use read_details::detail;
+use read_type::opened;
+use read_type::opened::Opened;
 
 const POSOLOGY: [usize; 9] = [
     DT_FROM, DT_TO, IN_RES, PO, REL_MEAL, UNIT, APPL_INSTR, ROA, MOA,
