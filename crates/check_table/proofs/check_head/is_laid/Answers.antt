@@ -22,7 +22,7 @@ unused-requires c =
 
 pub returns-then-unused : goal.returns-then-unused
 returns-then-unused c =
-    yes_of (record { all = search rules; room = c.if-text-gt-TEXT_ROOM.false; fits = c.if-count-gt-RECORDS.false; counted = omega (arith, c.below-n.ensures.here (omega arith), c.if-count-n.true, c.if-count-lt1.false); taken = c.detail-c.result.text; detail = c.detail-c-c.ensures.yes c.if-c.true; pieces = rw c.if-text-s.true (c.strings-s.ensures.yes c.if-s.true); zeros = c.unused.ensures.yes c.if-unused.true })
+    yes_of (record { all = search rules; room = c.if-text-gt-TEXT_ROOM.false; fits = c.if-count-gt-RECORDS.false; counted = omega (arith, c.below-n.ensures.here (omega arith), c.if-count-n.true, c.if-count-lt1.false); taken = c.detail-c.result.text; detail = c.detail-c.ensures.yes c.if-c.true; pieces = rw c.if-text-s.true (c.strings-s.ensures.yes c.if-s.true); zeros = c.unused.ensures.yes c.if-unused.true })
 
 pub returns-then-text-s : goal.returns-then-text-s
 returns-then-text-s c =
@@ -38,7 +38,7 @@ returns-then-c c =
 
 pub returns-then-count-n : goal.returns-then-count-n
 returns-then-count-n c =
-    no_of (λ p. c.detail-c.ensures.no c.if-c.false _ p.detail-c)
+    no_of (λ p. c.detail-c.ensures.no c.if-c.false _ p.detail)
 
 pub returns : goal.returns
 returns c =
