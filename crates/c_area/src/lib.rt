@@ -13,7 +13,7 @@ use document::table::{Date, Head, Table, WORDS};
 pub const AREA: usize = 3280;
 
 // A date's numbers.
-#[derive(Drop)]
+#[derive(Clone, Copy)]
 pub(crate) struct Seven {
     pub form: u64,
     pub year: u64,
@@ -130,9 +130,6 @@ pub fn lay_words(h: Head, count: usize, text: usize, words: &[u64; WORDS], area:
 pub fn lay(t: Table, area: &mut [u8])
     ensures { area.new ≡ cond (eqb (length area.old) area_bytes) (area_of t) area.old }
 {
-    let head = t.head;
-    let count = t.count;
-    let text = t.text;
     let records = table_words::table_words(t);
-    lay_words(head, count, text, &records, area);
+    lay_words(t.head, t.count, t.text, &records, area);
 }

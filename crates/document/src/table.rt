@@ -132,7 +132,7 @@ pub struct Head {
     pub moa: Text,
 }
 
-#[derive(Drop)]
+#[derive(Clone, Copy)]
 pub struct Table {
     pub head: Head,
     pub count: usize,
@@ -141,13 +141,13 @@ pub struct Table {
 }
 
 // A posology was read or refused, by the number and place of document 01.
-#[derive(Drop)]
+#[derive(Clone, Copy)]
 pub enum Answer {
     Taken,
     Refused { number: u8, place: usize },
 }
 
-#[derive(Drop)]
+#[derive(Clone, Copy)]
 pub struct Reading {
     pub answer: Answer,
     pub table: Table,
@@ -161,7 +161,7 @@ pub enum NextAnswer {
     Refused { number: u8, place: usize },
 }
 
-#[derive(Drop)]
+#[derive(Clone, Copy)]
 pub struct NextReading {
     pub answer: NextAnswer,
     pub table: Table,

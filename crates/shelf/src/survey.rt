@@ -11,7 +11,7 @@ const AREA: usize = 65535;
 
 // Of the records: their bytes, how many they are, where the one of the number asked for begins and how many bytes it takes (0 and 0 where it is
 // not there), and the number at the position asked for, 0 past the last.
-#[derive(Drop)]
+#[derive(Clone, Copy)]
 pub(crate) struct Survey {
     pub shelf: bool,
     pub used: usize,
