@@ -38,14 +38,14 @@ use Rattle.writer.proofs.HeadTexts.{head_plain}
 -- A text that was put from the buffer's start on.
 pub measured : {before : List ℕ} {text : List ℕ} {r : ℕ} {after : List ℕ} → Puts before 0 text [] r after → length text ≤ greatest_place → r ≡ length text
 measured {before} {text} p h =
-    let e : text ≡ p.bytes = p.in-front ∙ append-nil p.bytes in
+    let e : text ≡ p.bytes = p.in_front ∙ append-nil p.bytes in
     let n = ap length e in
     let z : 0 + length p.bytes ≡ length p.bytes = omega arith in
     p.place (omega arith) ∙ ap up_to z ∙ ap (λ b. cond b (length p.bytes) greatest_place) (le-leb (length p.bytes) greatest_place (omega arith)) ∙ sym n
 
 pub stored : {before : List ℕ} {text : List ℕ} {r : ℕ} {after : List ℕ} → Puts before 0 text [] r after → length before ≤ greatest_place → length text ≤ length before → after ≡ laid text before
 stored {before} {text} p g h =
-    let e : text ≡ p.bytes = p.in-front ∙ append-nil p.bytes in
+    let e : text ≡ p.bytes = p.in_front ∙ append-nil p.bytes in
     let n = ap length e in
     let z : 0 + length p.bytes ≡ length p.bytes = omega arith in
     p.laid (omega arith) g ∙ sets-eq p.bytes before 0 (omega arith) ∙ ap (λ m. p.bytes ++ drop m before) z ∙ ap (λ bs. bs ++ drop (length bs) before) (sym e)
