@@ -1,16 +1,20 @@
 // Standard input answered on standard output (document 01, "What the part does"). What is printed is the line that `line` promises of what was read.
+use std::io;
 
-fn print(line: &[u8], length: usize) {
+// More bytes than a text may have, so what stands behind them changes no answer; and they hold every line.
+const BUFFER: usize = 65536;
+
+fn print(rt: &impl Print, line: &[u8], length: usize) -> io::Result<()> {
     if length <= line.len() {
-        io::write_all(1, &line[..length]);
+        rt.write_all(&line[..length])?;
     }
+    Ok(())
 }
 
-// 65,536 bytes are more than a text may have, so what stands behind them changes no answer; and they hold every line.
-pub fn check() {
-    let mut input = io::large_buffer();
-    let mut line = io::large_buffer();
-    let n = io::read_full(0, &mut input);
+pub fn check(rt: &(impl Input + Print)) -> io::Result<()> {
+    let mut input = [0u8; BUFFER];
+    let mut line = [0u8; BUFFER];
+    let n = input_bytes::read_full(&mut rt.reader(), &mut input)?;
     let length = crate::line(&input[..n], &mut line);
-    print(&line, length);
+    print(rt, &line, length)
 }

@@ -1,6 +1,8 @@
 // The check program, run on a text that is refused.
 #![tactic(auto)]
 
-fn main() {
-    checker_lines::console::check();
+use std::io;
+
+fn main(rt: HostRuntime) -> io::Result<()> {
+    checker_lines::console::check(&rt)
 }

@@ -6,11 +6,14 @@ mod named;
 mod runs;
 
 use document::table::{TEXT_ROOM, Table, Writing};
+use std::io;
 use std::num::wrapping_add_usize;
 
-fn say(word: &[u8], n: u64) {
-    io::write_all(1, word);
-    io::print_decimal(1, n);
+const BUFFER: usize = 65536;
+
+fn say(rt: &impl Print, word: &[u8], n: u64) -> io::Result<()> {
+    rt.write_all(word)?;
+    rt.print(n)
 }
 
 // The bytes from `from` up to `to`, or none where they are not there.
@@ -36,12 +39,12 @@ fn put(t: Table, purpose: u64, strings: &[u8], out: &mut [u8], from: usize) -> u
     }
 }
 
-fn main() {
-    let mut given = io::large_buffer();
-    let mut out = io::large_buffer();
-    let mut again = io::large_buffer();
+fn main(rt: HostRuntime) -> io::Result<()> {
+    let mut given = [0u8; BUFFER];
+    let mut out = [0u8; BUFFER];
+    let mut again = [0u8; BUFFER];
     let mut strings = [0u8; TEXT_ROOM];
-    let n = io::read_full(0, &mut given);
-    let at = named::lines(&given[..n], &mut strings, &mut out);
-    runs::compare(part(&given, at, n), &mut strings, &mut out, &mut again);
+    let n = input_bytes::read_full(&mut rt.reader(), &mut given)?;
+    let at = named::lines(&rt, &given[..n], &mut strings, &mut out)?;
+    runs::compare(&rt, part(&given, at, n), &mut strings, &mut out, &mut again)
 }

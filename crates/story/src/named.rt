@@ -3,19 +3,26 @@ ghost use Rattle.std.specs.Prelude.{◌≤◌, length};
 
 use crate::{part, put, say};
 use document::table::Answer;
+use std::io;
 
-fn answer(text: &[u8], purpose: u64, strings: &mut [u8], out: &mut [u8]) {
+fn answer(
+    rt: &impl Print,
+    text: &[u8],
+    purpose: u64,
+    strings: &mut [u8],
+    out: &mut [u8],
+) -> io::Result<()> {
     let r = posology::read(text, purpose, strings);
     let t = r.table;
     let a = r.answer;
     match a {
         Answer::Taken => {
             let end = put(t, purpose, strings, out, 0);
-            io::write_all(1, part(out, 0, end));
+            rt.write_all(part(out, 0, end))
         }
         Answer::Refused { number, place } => {
-            say(b"refused ", number as u64);
-            say(b" ", place as u64);
+            say(rt, b"refused ", number as u64)?;
+            say(rt, b" ", place as u64)
         }
     }
 }
@@ -35,32 +42,38 @@ fn until(bytes: &[u8], at: usize, byte: u8) -> usize
     i
 }
 
-fn told(line: &[u8], strings: &mut [u8], out: &mut [u8]) {
+fn told(rt: &impl Print, line: &[u8], strings: &mut [u8], out: &mut [u8]) -> io::Result<()> {
     if line.len() < 2 {
-        return;
+        return Ok(());
     }
     let end = until(line, 2, b' ');
     let from = end + 1;
-    io::write_all(1, part(line, 2, from));
+    rt.write_all(part(line, 2, from))?;
     answer(
+        rt,
         part(line, from, line.len()),
         (line[0] % 16) as u64,
         strings,
         out,
-    );
-    io::write_all(1, b"\n");
+    )?;
+    rt.write_all(b"\n")
 }
 
 // Tells the lines before the first empty one, and answers where the rest begins.
-pub(crate) fn lines(given: &[u8], strings: &mut [u8], out: &mut [u8]) -> usize {
+pub(crate) fn lines(
+    rt: &impl Print,
+    given: &[u8],
+    strings: &mut [u8],
+    out: &mut [u8],
+) -> io::Result<usize> {
     let mut from = 0;
     while from < given.len() {
         let end = until(given, from, b'\n');
         if end == from {
-            return end + 1;
+            return Ok(end + 1);
         }
-        told(part(given, from, end), strings, out);
+        told(rt, part(given, from, end), strings, out)?;
         from = end + 1;
     }
-    from
+    Ok(from)
 }

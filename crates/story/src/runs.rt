@@ -2,6 +2,7 @@
 // The first are written one behind the other and read back; then the others must come to the same bytes.
 use crate::{part, put, say};
 use document::table::NextAnswer;
+use std::io;
 use std::num::wrapping_add_usize;
 
 const PLAN: u64 = 1;
@@ -32,7 +33,13 @@ fn one_more(g: Going, run: &[u8], strings: &mut [u8], out: &mut [u8]) -> Going {
 }
 
 // 64 texts of the run.
-fn all(word: &[u8], run: &[u8], strings: &mut [u8], out: &mut [u8]) -> Going {
+fn all(
+    rt: &impl Print,
+    word: &[u8],
+    run: &[u8],
+    strings: &mut [u8],
+    out: &mut [u8],
+) -> io::Result<Going> {
     let mut g = Going {
         count: 0,
         at: 0,
@@ -43,31 +50,44 @@ fn all(word: &[u8], run: &[u8], strings: &mut [u8], out: &mut [u8]) -> Going {
         g = one_more(g, run, strings, out);
         i += 1;
     }
-    say(word, g.count as u64);
-    say(b" posologies, ", g.length as u64);
-    io::write_all(1, b" bytes\n");
-    g
+    say(rt, word, g.count as u64)?;
+    say(rt, b" posologies, ", g.length as u64)?;
+    rt.write_all(b" bytes\n")?;
+    Ok(g)
 }
 
 // Whether the texts of a run come to the bytes that were written before.
-fn once_more(word: &[u8], run: &[u8], written: &[u8], strings: &mut [u8], out: &mut [u8]) {
-    let g = all(word, run, strings, out);
+fn once_more(
+    rt: &impl Print,
+    word: &[u8],
+    run: &[u8],
+    written: &[u8],
+    strings: &mut [u8],
+    out: &mut [u8],
+) -> io::Result<()> {
+    let g = all(rt, word, run, strings, out)?;
     if check::same(written, part(out, 0, g.length)) {
-        io::write_all(1, b"the same bytes\n");
-        return;
+        return rt.write_all(b"the same bytes\n");
     }
-    io::write_all(1, b"not the same\n");
+    rt.write_all(b"not the same\n")
 }
 
-pub(crate) fn compare(given: &[u8], strings: &mut [u8], out: &mut [u8], again: &mut [u8]) {
-    let g = all(b"written: ", given, strings, out);
+pub(crate) fn compare(
+    rt: &impl Print,
+    given: &[u8],
+    strings: &mut [u8],
+    out: &mut [u8],
+    again: &mut [u8],
+) -> io::Result<()> {
+    let g = all(rt, b"written: ", given, strings, out)?;
     let written = part(out, 0, g.length);
-    once_more(b"read back: ", written, written, strings, again);
+    once_more(rt, b"read back: ", written, written, strings, again)?;
     once_more(
+        rt,
         b"reordered, with blanks: ",
         part(given, g.at, given.len()),
         written,
         strings,
         again,
-    );
+    )
 }

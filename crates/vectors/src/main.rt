@@ -4,9 +4,15 @@
 // what is read, and its bound. A line `walk` or `walkrun` is of the walk alone: `2 PLACE`, `3 PLACE` or `taken`.
 #![tactic(auto)]
 
-use vectors_cases::Case;
 use document::table::{Answer, Measuring, NextAnswer, TEXT_ROOM, Table, Writing};
 use json_walk::End;
+use std::io;
+use vectors_cases::Case;
+
+const BUFFER: usize = 65536;
+
+// More than any input here has.
+const CHUNKS: usize = 1000;
 
 // The first words of the lines that are not `read` or `reads`, packed.
 const RUN: u64 = 0x72756E;
@@ -22,7 +28,7 @@ const WALK_RUN: u64 = 0x77616C6B72756E;
 // Whether reading a plain text and writing what was read gives it again.
 fn comes_back(plain: &[u8], purpose: u64) -> bool {
     let mut strings = [0u8; TEXT_ROOM];
-    let mut again = io::large_buffer();
+    let mut again = [0u8; BUFFER];
     let r = posology::read(plain, purpose, &mut strings);
     let t = r.table;
     let w = writer::write(t, &strings, purpose, &mut again);
@@ -35,154 +41,174 @@ fn comes_back(plain: &[u8], purpose: u64) -> bool {
     }
 }
 
-fn say_plain(t: Table, purpose: u64, strings: &[u8]) {
-    let mut out = io::large_buffer();
+fn say_plain(rt: &impl Print, t: Table, purpose: u64, strings: &[u8]) -> io::Result<()> {
+    let mut out = [0u8; BUFFER];
     let w = writer::write(t, strings, purpose, &mut out);
     match w {
         Writing::Written { length } => {
             let plain = vectors_cases::first(&out, length);
-            io::write_all(1, b" ");
-            vectors_cases::say_hex(plain);
+            rt.write_all(b" ")?;
+            vectors_cases::say_hex(rt, plain)?;
             if !comes_back(plain, purpose) {
-                io::write_all(1, b" does not read back");
+                rt.write_all(b" does not read back")?;
             }
+            Ok(())
         }
-        Writing::Refused { number, place: _ } => vectors_cases::say(b" unwritten ", number as u64),
+        Writing::Refused { number, place: _ } => vectors_cases::say(
+            rt,
+            b" unwritten ",
+            number as u64,
+        ),
     }
 }
 
-fn say_taken(t: Table, purpose: u64, strings: &[u8]) {
-    vectors_cases::say(b" ", t.count as u64);
-    say_plain(t, purpose, strings);
-    io::write_all(1, b" ");
-    vectors_cases::say_hex(vectors_cases::first(strings, t.text));
-    vectors_cases::end_line();
+fn say_taken(rt: &impl Print, t: Table, purpose: u64, strings: &[u8]) -> io::Result<()> {
+    vectors_cases::say(rt, b" ", t.count as u64)?;
+    say_plain(rt, t, purpose, strings)?;
+    rt.write_all(b" ")?;
+    vectors_cases::say_hex(rt, vectors_cases::first(strings, t.text))?;
+    vectors_cases::end_line(rt)
 }
 
-fn answer_text(text: &[u8], purpose: u64, strings: &mut [u8]) {
+fn answer_text(rt: &impl Print, text: &[u8], purpose: u64, strings: &mut [u8]) -> io::Result<()> {
     let r = posology::read(text, purpose, strings);
     let t = r.table;
     let a = r.answer;
     match a {
         Answer::Taken => {
-            io::write_all(1, b"ok");
-            say_taken(t, purpose, strings);
+            rt.write_all(b"ok")?;
+            say_taken(rt, t, purpose, strings)
         }
-        Answer::Refused { number, place } => vectors_cases::say_refused(number, place),
+        Answer::Refused { number, place } => vectors_cases::say_refused(rt, number, place),
     }
 }
 
-fn answer_run(run: &[u8], purpose: u64, strings: &mut [u8]) {
+fn answer_run(rt: &impl Print, run: &[u8], purpose: u64, strings: &mut [u8]) -> io::Result<()> {
     let r = posology::read_next(run, purpose, strings);
     let t = r.table;
     let a = r.answer;
     match a {
         NextAnswer::Taken { end } => {
-            vectors_cases::say(b"ok ", end as u64);
-            say_taken(t, purpose, strings);
+            vectors_cases::say(rt, b"ok ", end as u64)?;
+            say_taken(rt, t, purpose, strings)
         }
         NextAnswer::Blank { length } => {
-            vectors_cases::say(b"blank ", length as u64);
-            vectors_cases::end_line();
+            vectors_cases::say(rt, b"blank ", length as u64)?;
+            vectors_cases::end_line(rt)
         }
-        NextAnswer::Refused { number, place } => vectors_cases::say_refused(number, place),
+        NextAnswer::Refused { number, place } => vectors_cases::say_refused(rt, number, place),
     }
 }
 
-fn say_length(t: Table, purpose: u64, strings: &[u8]) {
+fn say_length(rt: &impl Print, t: Table, purpose: u64, strings: &[u8]) -> io::Result<()> {
     let m = writer::length(t, strings, purpose);
     match m {
         Measuring::Measured { length } => {
-            vectors_cases::say(b"ok ", length as u64);
-            vectors_cases::say(b" ", writer::longest(t.count, t.text) as u64);
-            vectors_cases::end_line();
+            vectors_cases::say(rt, b"ok ", length as u64)?;
+            vectors_cases::say(rt, b" ", writer::longest(t.count, t.text) as u64)?;
+            vectors_cases::end_line(rt)
         }
-        Measuring::Refused { number, place } => vectors_cases::say_refused(number, place),
+        Measuring::Refused { number, place } => vectors_cases::say_refused(rt, number, place),
     }
 }
 
-fn answer_length(text: &[u8], purpose: u64, strings: &mut [u8]) {
+fn answer_length(rt: &impl Print, text: &[u8], purpose: u64, strings: &mut [u8]) -> io::Result<()> {
     let r = posology::read(text, purpose, strings);
     let t = r.table;
     let a = r.answer;
     match a {
-        Answer::Taken => say_length(t, purpose, strings),
-        Answer::Refused { number, place } => vectors_cases::say_refused(number, place),
+        Answer::Taken => say_length(rt, t, purpose, strings),
+        Answer::Refused { number, place } => vectors_cases::say_refused(rt, number, place),
     }
 }
 
-fn say_walked(end: End) {
+fn say_walked(rt: &impl Print, end: End) -> io::Result<()> {
     match end {
-        End::At(_) => {
-            io::write_all(1, b"taken");
-        }
-        End::Bad(p) => vectors_cases::say(b"2 ", p as u64),
-        End::Deep(p) => vectors_cases::say(b"3 ", p as u64),
+        End::At(_) => rt.write_all(b"taken")?,
+        End::Bad(p) => vectors_cases::say(rt, b"2 ", p as u64)?,
+        End::Deep(p) => vectors_cases::say(rt, b"3 ", p as u64)?,
     }
-    vectors_cases::end_line();
+    vectors_cases::end_line(rt)
 }
 
-fn answer(c: Case, text: &[u8], strings: &mut [u8]) {
+fn answer(rt: &impl Print, c: Case, text: &[u8], strings: &mut [u8]) -> io::Result<()> {
     if c.command == WALK {
-        say_walked(json_alone::one_object(text));
-        return;
+        return say_walked(rt, json_alone::one_object(text));
     }
     if c.command == WALK_RUN {
-        say_walked(json_walk::first_object(text));
-        return;
+        return say_walked(rt, json_walk::first_object(text));
     }
     if c.command == LENGTH {
-        answer_length(text, c.first, strings);
-        return;
+        return answer_length(rt, text, c.first, strings);
     }
     if c.command == RUN || c.command == RUNS {
-        answer_run(text, c.first, strings);
-        return;
+        return answer_run(rt, text, c.first, strings);
     }
-    answer_text(text, c.first, strings);
+    answer_text(rt, text, c.first, strings)
 }
 
-fn answer_within(room: usize, c: Case, text: &[u8], strings: &mut [u8]) {
+fn answer_within(
+    rt: &impl Print,
+    room: usize,
+    c: Case,
+    text: &[u8],
+    strings: &mut [u8],
+) -> io::Result<()> {
     if room <= strings.len() {
-        answer(c, text, &mut strings[..room]);
+        answer(rt, c, text, &mut strings[..room])?;
     }
+    Ok(())
 }
 
-fn with(c: Case, b: u8, text: &mut [u8], strings: &mut [u8]) -> Case {
+fn with(rt: &impl Print, c: Case, b: u8, text: &mut [u8], strings: &mut [u8]) -> io::Result<Case> {
     if b == b'\n' {
-        answer_within(c.second as usize, c, vectors_cases::first(text, c.bytes), strings);
-        return vectors_cases::fresh();
+        answer_within(
+            rt,
+            c.second as usize,
+            c,
+            vectors_cases::first(text, c.bytes),
+            strings,
+        )?;
+        return Ok(vectors_cases::fresh());
     }
-    vectors_cases::with(c, b, text)
+    Ok(vectors_cases::with(c, b, text))
 }
 
-fn through(chunk: &[u8], start: Case, text: &mut [u8], strings: &mut [u8]) -> Case {
+fn through(
+    rt: &impl Print,
+    chunk: &[u8],
+    start: Case,
+    text: &mut [u8],
+    strings: &mut [u8],
+) -> io::Result<Case> {
     let mut c = start;
-    let mut i = 0;
-    while i < chunk.len() {
-        c = with(c, chunk[i], text, strings);
-        i += 1;
+    for b in chunk {
+        c = with(rt, c, *b, text, strings)?;
     }
-    c
+    Ok(c)
 }
 
-// A thousand chunks are more than any input here has.
-fn run(chunk: &mut [u8], text: &mut [u8], strings: &mut [u8]) {
+fn run(
+    rt: &(impl Input + Print),
+    chunk: &mut [u8],
+    text: &mut [u8],
+    strings: &mut [u8],
+) -> io::Result<()> {
+    let mut reader = rt.reader();
     let mut c = vectors_cases::fresh();
-    let mut left: usize = 1000;
-    while 0 < left {
-        let n = io::read_full(0, chunk);
+    for _ in 0..CHUNKS {
+        let n = input_bytes::read_full(&mut reader, chunk)?;
         if n == 0 {
-            return;
+            return Ok(());
         }
-        c = through(&chunk[..n], c, text, strings);
-        left -= 1;
+        c = through(rt, &chunk[..n], c, text, strings)?;
     }
+    Ok(())
 }
 
-fn main() {
-    let mut chunk = io::large_buffer();
-    let mut text = io::large_buffer();
-    let mut strings = io::large_buffer();
-    run(&mut chunk, &mut text, &mut strings);
+fn main(rt: HostRuntime) -> io::Result<()> {
+    let mut chunk = [0u8; BUFFER];
+    let mut text = [0u8; BUFFER];
+    let mut strings = [0u8; BUFFER];
+    run(&rt, &mut chunk, &mut text, &mut strings)
 }

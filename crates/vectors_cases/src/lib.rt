@@ -3,6 +3,7 @@
 #![tactic(auto)]
 
 use json_scan::byte;
+use std::io;
 
 // The first word's letters are packed into a number, the last one lowest. Of each word behind it the number is kept, if it is one of the first
 // two, and its bytes until the next begins.
@@ -83,32 +84,30 @@ pub fn with(c: Case, b: u8, text: &mut [u8]) -> Case {
     with_digit(with_number(c, b), b, text)
 }
 
-pub fn say(word: &[u8], n: u64) {
-    io::write_all(1, word);
-    io::print_decimal(1, n);
+pub fn say(rt: &impl Print, word: &[u8], n: u64) -> io::Result<()> {
+    rt.write_all(word)?;
+    rt.print(n)
 }
 
 // Bytes in hexadecimal; `-` for none.
-pub fn say_hex(bytes: &[u8]) {
+pub fn say_hex(rt: &impl Print, bytes: &[u8]) -> io::Result<()> {
     if bytes.len() == 0 {
-        io::write_all(1, b"-");
-        return;
+        return rt.write_all(b"-");
     }
-    let mut i = 0;
-    while i < bytes.len() {
-        io::print_hex(1, byte::wide(bytes[i]), 2);
-        i += 1;
+    for byte in bytes {
+        print!(rt; "{byte:02x}")?;
     }
+    Ok(())
 }
 
-pub fn end_line() {
-    io::write_all(1, b"\n");
+pub fn end_line(rt: &impl Print) -> io::Result<()> {
+    rt.write_all(b"\n")
 }
 
-pub fn say_refused(number: u8, place: usize) {
-    say(b"refused ", number as u64);
-    say(b" ", place as u64);
-    end_line();
+pub fn say_refused(rt: &impl Print, number: u8, place: usize) -> io::Result<()> {
+    say(rt, b"refused ", number as u64)?;
+    say(rt, b" ", place as u64)?;
+    end_line(rt)
 }
 
 // So many bytes, or all where there are fewer.

@@ -2,9 +2,15 @@
 // `put NUMBER USE HEX`, `fetch NUMBER ROOM`, `remove NUMBER`, `at POSITION`, and `show`, which prints the area without its closing zeros.
 #![tactic(auto)]
 
-use vectors_cases::Case;
 use document::table::{Answer, Table, Writing};
 use shelf::{AtAnswer, PutAnswer, RemoveAnswer};
+use std::io;
+use vectors_cases::Case;
+
+const BUFFER: usize = 65536;
+
+// More than any input here has.
+const CHUNKS: usize = 1000;
 
 const ROOM: usize = 131072;
 
@@ -28,8 +34,8 @@ struct State {
     length: usize,
 }
 
-fn ok() {
-    io::write_all(1, b"ok\n");
+fn ok(rt: &impl Print) -> io::Result<()> {
+    rt.write_all(b"ok\n")
 }
 
 // Fills the area with the bytes and zeros behind them.
@@ -41,62 +47,82 @@ fn lay(area: &mut [u8], bytes: &[u8]) {
     }
 }
 
-fn answer_put(area: &mut [u8], number: u64, purpose: u64, text: &[u8]) {
+fn answer_put(
+    rt: &impl Print,
+    area: &mut [u8],
+    number: u64,
+    purpose: u64,
+    text: &[u8],
+) -> io::Result<()> {
     let r = shelf::put(area, number, text, purpose);
     match r {
-        PutAnswer::Stored { length: _ } => ok(),
-        PutAnswer::Refused { number: n, place } => vectors_cases::say_refused(n, place),
+        PutAnswer::Stored { length: _ } => ok(rt),
+        PutAnswer::Refused { number: n, place } => vectors_cases::say_refused(rt, n, place),
     }
 }
 
-fn say_plain(t: Table, strings: &[u8]) {
-    let mut out = io::large_buffer();
+fn say_plain(rt: &impl Print, t: Table, strings: &[u8]) -> io::Result<()> {
+    let mut out = [0u8; BUFFER];
     let w = writer::write(t, strings, 3, &mut out);
     match w {
-        Writing::Written { length } => vectors_cases::say_hex(vectors_cases::first(&out, length)),
-        Writing::Refused { number, place: _ } => vectors_cases::say(b"unwritten ", number as u64),
+        Writing::Written { length } => vectors_cases::say_hex(
+            rt,
+            vectors_cases::first(&out, length),
+        ),
+        Writing::Refused { number, place: _ } => vectors_cases::say(
+            rt,
+            b"unwritten ",
+            number as u64,
+        ),
     }
 }
 
-fn answer_fetch(area: &[u8], number: u64, strings: &mut [u8]) {
+fn answer_fetch(rt: &impl Print, area: &[u8], number: u64, strings: &mut [u8]) -> io::Result<()> {
     let r = shelf::fetch(area, number, strings);
     let t = r.table;
     let a = r.answer;
     match a {
         Answer::Taken => {
-            vectors_cases::say(b"ok ", t.count as u64);
-            io::write_all(1, b" ");
-            say_plain(t, strings);
-            io::write_all(1, b" ");
-            vectors_cases::say_hex(vectors_cases::first(strings, t.text));
-            vectors_cases::end_line();
+            vectors_cases::say(rt, b"ok ", t.count as u64)?;
+            rt.write_all(b" ")?;
+            say_plain(rt, t, strings)?;
+            rt.write_all(b" ")?;
+            vectors_cases::say_hex(rt, vectors_cases::first(strings, t.text))?;
+            vectors_cases::end_line(rt)
         }
-        Answer::Refused { number: n, place } => vectors_cases::say_refused(n, place),
+        Answer::Refused { number: n, place } => vectors_cases::say_refused(rt, n, place),
     }
 }
 
-fn fetch_within(room: usize, area: &[u8], number: u64, strings: &mut [u8]) {
+fn fetch_within(
+    rt: &impl Print,
+    room: usize,
+    area: &[u8],
+    number: u64,
+    strings: &mut [u8],
+) -> io::Result<()> {
     if room <= strings.len() {
-        answer_fetch(area, number, &mut strings[..room]);
+        answer_fetch(rt, area, number, &mut strings[..room])?;
     }
+    Ok(())
 }
 
-fn answer_remove(area: &mut [u8], number: u64) {
+fn answer_remove(rt: &impl Print, area: &mut [u8], number: u64) -> io::Result<()> {
     let r = shelf::remove(area, number);
     match r {
-        RemoveAnswer::Removed => ok(),
-        RemoveAnswer::Refused { number: n, place } => vectors_cases::say_refused(n, place),
+        RemoveAnswer::Removed => ok(rt),
+        RemoveAnswer::Refused { number: n, place } => vectors_cases::say_refused(rt, n, place),
     }
 }
 
-fn answer_at(area: &[u8], position: u64) {
+fn answer_at(rt: &impl Print, area: &[u8], position: u64) -> io::Result<()> {
     let r = shelf::at(area, position);
     match r {
         AtAnswer::Standing { number } => {
-            vectors_cases::say(b"ok ", number);
-            vectors_cases::end_line();
+            vectors_cases::say(rt, b"ok ", number)?;
+            vectors_cases::end_line(rt)
         }
-        AtAnswer::Refused { number: n, place } => vectors_cases::say_refused(n, place),
+        AtAnswer::Refused { number: n, place } => vectors_cases::say_refused(rt, n, place),
     }
 }
 
@@ -112,100 +138,135 @@ fn filled(area: &[u8]) -> usize {
     0
 }
 
-fn answer_call(c: Case, area: &mut [u8], text: &[u8], strings: &mut [u8]) {
+fn answer_call(
+    rt: &impl Print,
+    c: Case,
+    area: &mut [u8],
+    text: &[u8],
+    strings: &mut [u8],
+) -> io::Result<()> {
     if c.command == PUT {
-        answer_put(area, c.first, c.second, text);
-        return;
+        return answer_put(rt, area, c.first, c.second, text);
     }
     if c.command == FETCH {
-        fetch_within(c.second as usize, area, c.first, strings);
-        return;
+        return fetch_within(rt, c.second as usize, area, c.first, strings);
     }
     if c.command == REMOVE {
-        answer_remove(area, c.first);
-        return;
+        return answer_remove(rt, area, c.first);
     }
     if c.command == AT {
-        answer_at(area, c.first);
-        return;
+        return answer_at(rt, area, c.first);
     }
-    vectors_cases::say_hex(vectors_cases::first(area, filled(area)));
-    vectors_cases::end_line();
+    vectors_cases::say_hex(rt, vectors_cases::first(area, filled(area)))?;
+    vectors_cases::end_line(rt)
 }
 
-fn call_within(length: usize, c: Case, area: &mut [u8], text: &[u8], strings: &mut [u8]) {
+fn call_within(
+    rt: &impl Print,
+    length: usize,
+    c: Case,
+    area: &mut [u8],
+    text: &[u8],
+    strings: &mut [u8],
+) -> io::Result<()> {
     if length <= area.len() {
-        answer_call(c, &mut area[..length], text, strings);
+        answer_call(rt, c, &mut area[..length], text, strings)?;
     }
+    Ok(())
 }
 
 // The area's length after the line.
-fn answer(c: Case, length: usize, area: &mut [u8], text: &[u8], strings: &mut [u8]) -> usize {
+fn answer(
+    rt: &impl Print,
+    c: Case,
+    length: usize,
+    area: &mut [u8],
+    text: &[u8],
+    strings: &mut [u8],
+) -> io::Result<usize> {
     if c.command == AREA {
         lay(area, vectors_cases::first(text, 0));
-        ok();
-        return (c.first % 131073) as usize;
+        ok(rt)?;
+        return Ok((c.first % 131073) as usize);
     }
     if c.command == BYTES {
         lay(area, vectors_cases::first(text, c.bytes));
-        ok();
-        return c.bytes;
+        ok(rt)?;
+        return Ok(c.bytes);
     }
-    call_within(length, c, area, vectors_cases::first(text, c.bytes), strings);
-    length
+    call_within(
+        rt,
+        length,
+        c,
+        area,
+        vectors_cases::first(text, c.bytes),
+        strings,
+    )?;
+    Ok(length)
 }
 
-fn with(s: State, b: u8, area: &mut [u8], text: &mut [u8], strings: &mut [u8]) -> State {
+fn with(
+    rt: &impl Print,
+    s: State,
+    b: u8,
+    area: &mut [u8],
+    text: &mut [u8],
+    strings: &mut [u8],
+) -> io::Result<State> {
     let c = s.line;
     if b == b'\n' {
-        return State {
+        return Ok(State {
             line: vectors_cases::fresh(),
-            length: answer(c, s.length, area, text, strings),
-        };
+            length: answer(rt, c, s.length, area, text, strings)?,
+        });
     }
-    State {
+    Ok(State {
         line: vectors_cases::with(c, b, text),
         length: s.length,
-    }
+    })
 }
 
 fn through(
+    rt: &impl Print,
     chunk: &[u8],
     start: State,
     area: &mut [u8],
     text: &mut [u8],
     strings: &mut [u8],
-) -> State {
+) -> io::Result<State> {
     let mut s = start;
-    let mut i = 0;
-    while i < chunk.len() {
-        s = with(s, chunk[i], area, text, strings);
-        i += 1;
+    for b in chunk {
+        s = with(rt, s, *b, area, text, strings)?;
     }
-    s
+    Ok(s)
 }
 
-// A thousand chunks are more than any input here has.
-fn run(chunk: &mut [u8], area: &mut [u8], text: &mut [u8], strings: &mut [u8]) {
+fn run(
+    rt: &(impl Input + Print),
+    chunk: &mut [u8],
+    area: &mut [u8],
+    text: &mut [u8],
+    strings: &mut [u8],
+) -> io::Result<()> {
+    let mut reader = rt.reader();
     let mut s = State {
         line: vectors_cases::fresh(),
         length: 0,
     };
-    let mut left: usize = 1000;
-    while 0 < left {
-        let n = io::read_full(0, chunk);
+    for _ in 0..CHUNKS {
+        let n = input_bytes::read_full(&mut reader, chunk)?;
         if n == 0 {
-            return;
+            return Ok(());
         }
-        s = through(&chunk[..n], s, area, text, strings);
-        left -= 1;
+        s = through(rt, &chunk[..n], s, area, text, strings)?;
     }
+    Ok(())
 }
 
-fn main() {
-    let mut chunk = io::large_buffer();
+fn main(rt: HostRuntime) -> io::Result<()> {
+    let mut chunk = [0u8; BUFFER];
     let mut area = [0u8; ROOM];
     let mut text = [0u8; ROOM];
-    let mut strings = io::large_buffer();
-    run(&mut chunk, &mut area, &mut text, &mut strings);
+    let mut strings = [0u8; BUFFER];
+    run(&rt, &mut chunk, &mut area, &mut text, &mut strings)
 }
