@@ -45,10 +45,8 @@ fn all(
         at: 0,
         length: 0,
     };
-    let mut i = 0;
-    while i < POSOLOGIES {
+    for _ in 0..POSOLOGIES {
         g = one_more(g, run, strings, out);
-        i += 1;
     }
     say(rt, word, g.count as u64)?;
     say(rt, b" posologies, ", g.length as u64)?;

@@ -1,0 +1,9 @@
+-- The measure is what is left of the bytes.
+use Rattle.std.proofs.Common.{◌-◌, ◌≤◌, length}
+use Rattle.story.proofs.named.until.Given as goal
+
+abbrev pub invariant-loop-i : goal.invariant-loop-i
+invariant-loop-i l = (l.at ≤ l.i) × (l.i ≤ length l.bytes)
+
+abbrev pub decreases-loop-i : goal.decreases-loop-i
+decreases-loop-i l = length l.bytes - l.i
