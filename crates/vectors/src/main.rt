@@ -63,11 +63,10 @@ fn say_plain(rt: &impl Print, t: Table, purpose: u64, strings: &[u8]) -> io::Res
 }
 
 fn say_taken(rt: &impl Print, t: Table, purpose: u64, strings: &[u8]) -> io::Result<()> {
-    let text = t.text;
     vectors_cases::say(rt, b" ", t.count as u64)?;
     say_plain(rt, t, purpose, strings)?;
     rt.write_all(b" ")?;
-    vectors_cases::say_hex(rt, vectors_cases::first(strings, text))?;
+    vectors_cases::say_hex(rt, vectors_cases::first(strings, t.text))?;
     vectors_cases::end_line(rt)
 }
 
@@ -102,12 +101,11 @@ fn answer_run(rt: &impl Print, run: &[u8], purpose: u64, strings: &mut [u8]) -> 
 }
 
 fn say_length(rt: &impl Print, t: Table, purpose: u64, strings: &[u8]) -> io::Result<()> {
-    let bound = writer::longest(t.count, t.text);
     let m = writer::length(t, strings, purpose);
     match m {
         Measuring::Measured { length } => {
             vectors_cases::say(rt, b"ok ", length as u64)?;
-            vectors_cases::say(rt, b" ", bound as u64)?;
+            vectors_cases::say(rt, b" ", writer::longest(t.count, t.text) as u64)?;
             vectors_cases::end_line(rt)
         }
         Measuring::Refused { number, place } => vectors_cases::say_refused(rt, number, place),

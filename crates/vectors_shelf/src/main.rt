@@ -83,12 +83,11 @@ fn answer_fetch(rt: &impl Print, area: &[u8], number: u64, strings: &mut [u8]) -
     let a = r.answer;
     match a {
         Answer::Taken => {
-            let text = t.text;
             vectors_cases::say(rt, b"ok ", t.count as u64)?;
             rt.write_all(b" ")?;
             say_plain(rt, t, strings)?;
             rt.write_all(b" ")?;
-            vectors_cases::say_hex(rt, vectors_cases::first(strings, text))?;
+            vectors_cases::say_hex(rt, vectors_cases::first(strings, t.text))?;
             vectors_cases::end_line(rt)
         }
         Answer::Refused { number: n, place } => vectors_cases::say_refused(rt, n, place),
