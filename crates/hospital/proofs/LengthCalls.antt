@@ -126,7 +126,7 @@ module _ (purpose : ℕ) (area strings : List ℕ) where
   pub record Measured (l : ℕ) : Type 0 where
     pub size : length area ≡ area_bytes
     pub used : is_use purpose ≡ true
-    pub is_area_lem : is_area area ≡ true
+    pub is_area : is_area area ≡ true
     pub is : length_of purpose (table_in area) strings ≡ ends l
 
   pub measured_area : {l : ℕ} → MeasuresFrom purpose area strings 0 l → Measured l
@@ -139,7 +139,7 @@ module _ (purpose : ℕ) (area strings : List ℕ) where
       go : (a u b : Bool) → eqb (length area) area_bytes ≡ a → is_use purpose ≡ u → is_area area ≡ b
           → 0 ≡ (by a u b).number → l ≡ (by a u b).place → Measured l
       go true true true s t v e f =
-          record { size = eqb-true _ _ s; used = t; is_area_lem = v; is = told_length purpose (table_in area) strings (sym e) ∙ ap ends (sym f) }
+          record { size = eqb-true _ _ s; used = t; is_area = v; is = told_length purpose (table_in area) strings (sym e) ∙ ap ends (sym f) }
       go true true false s t v e f = absurd (omega arith)
       go true false b s t v e f = absurd (omega arith)
       go false u b s t v e f = absurd (omega arith)

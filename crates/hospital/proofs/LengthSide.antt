@@ -27,7 +27,7 @@ module _ {purpose l : ℕ} {area strings : List ℕ} (a : MeasuresFrom purpose a
 
   module _ {n at : ℕ} {out out' : List ℕ} (b : WritesFrom purpose area strings out n at out') where
     called : write purpose (table_in area) strings (length out) ≡ called_write purpose area strings (length out)
-    called = let m = measured_area purpose area strings a in sized purpose area strings out m.size m.used m.is-area
+    called = let m = measured_area purpose area strings a in sized purpose area strings out m.size m.used m.is_area
 
     -- "a buffer of that length suffices"
     pub told_length_suffices : l ≤ length out → (n ≡ 0) × (at ≡ l)
