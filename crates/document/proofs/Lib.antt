@@ -1,4 +1,4 @@
--- Laws of the definitions that code is proved by; what texts mean is proved in crate meaning.
+-- Laws of the definitions that code is proved by; what texts mean is proved in document_meaning.
 pub mod Same
 pub mod Ranges
 pub mod Strings

@@ -1,2 +1,2 @@
--- What the proofs of several functions use, here and in numbers.
+-- What the proofs of several functions use, here and in document_numbers.
 pub mod Bytes

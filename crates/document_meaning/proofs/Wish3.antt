@@ -86,9 +86,9 @@ evening = moment (day_at 2024 3 5) 84600 (east 60)
 abbrev pub night : Date
 night = moment (day_at 2024 3 6) 900 (east 120)
 
-pub pair-written :
+pub pair_written :
     (write 3 (table_of (between evening night)) (bytes "x") 2048 ≡ refuses 18 0)
     × (write 3 (table_of (between night evening)) (bytes "x") 2048
     ≡ writes (bytes forward))
 unfolding write table_of instant
-pair-written = (refl, refl)
+pair_written = (refl, refl)

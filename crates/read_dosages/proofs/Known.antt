@@ -75,7 +75,7 @@ module _ (p : Place) (es : List (Entry Value)) (l : State) where
   unfolding rows_of simple_rows name_at names
   simple_fields = refl
 
-  pub from-to-fields :
+  pub from_to_fields :
       fields (rows_of a_dosage 2) p es l
       ≡ (bind (needed (a_number (decimal 0)) p (find (name_at 16) es) l) λ a l₁.
       bind (needed (a_number (decimal 0)) p (find (name_at 17) es) l₁) λ b l₂.
@@ -83,15 +83,15 @@ module _ (p : Place) (es : List (Entry Value)) (l : State) where
       bind (needed (a_number (integer 1 99999)) p (find (name_at 19) es) l₃) λ du l₄.
       guard (ltb a b) 12 p (done (P.from_to a b unit du) l₄))
   unfolding rows_of from_to_rows name_at names
-  from-to-fields = refl
+  from_to_fields = refl
 
-  pub range-fields :
+  pub range_fields :
       fields (rows_of a_dosage 3) p es l
       ≡ (bind (needed (a_number (decimal 1)) p (find (name_at 20) es) l) λ a l₁.
       bind (needed (a_number (decimal 0)) p (find (name_at 21) es) l₁) λ b l₂.
       guard (ltb a b) 12 p (done (P.range a b) l₂))
   unfolding rows_of range_rows name_at names
-  range-fields = refl
+  range_fields = refl
 
   pub application_fields : (timed : Bool) {own : ℕ} → own ≡ cond timed 23 24
       → fields (rows_of (an_application timed) 0) p es l
@@ -138,11 +138,11 @@ module _ (p : Place) (es : List (Entry Value)) (l : State) where
         done (on_days b ds td) l₂))
         week e refl refl
 
-    pub interval-fields :
+    pub interval_fields :
         fields (rows_of (a_timed ts) 6) p es l
         ≡ (bind (needed (an_object a_dosage) p (find (name_at 8) es) l) λ d l₁.
         bind (needed (a_number (integer 1 99999)) p (find (name_at 13) es) l₁) λ du l₂.
         bind (needed (a_number (integer 1 7)) p (find (name_at 14) es) l₂) λ unit l₃.
         done (P.interval d du unit) l₃)
     unfolding rows_of interval_rows name_at names
-    interval-fields = refl
+    interval_fields = refl

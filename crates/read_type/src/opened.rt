@@ -25,7 +25,7 @@ pub struct Object {
     pub slots: [usize; NAMES],
 }
 
-// An enum holds no array, so the object stands beside the answer.
+// The object stands beside the answer, which is told apart without it.
 #[derive(Clone, Copy)]
 pub struct Opening {
     pub answer: Opened,

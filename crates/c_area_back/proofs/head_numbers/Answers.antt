@@ -1,4 +1,3 @@
--- The head's numbers, one after another.
 use Prim.Native.Nat.{ℕ}
 use mathlib.Core.Path.{refl, ap, ◌∙◌}
 use mathlib.Core.List.{List}

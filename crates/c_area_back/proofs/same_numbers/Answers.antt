@@ -1,4 +1,3 @@
--- Numbers are compared one after another, up to the first that differ.
 use mathlib.Core.Path.{refl, sym, ◌∙◌}
 use native.Mathlib.Omega.{arith}
 use Rattle.c_area_back.proofs.Same.{same_on, same_ended}

@@ -1,4 +1,3 @@
--- Numbers stored one after another: what is still to be stored, stored, is all of them stored.
 use Prim.Native.Nat.{ℕ, ◌+◌, ◌*◌, ◌-◌}
 use mathlib.Core.Path.{refl, ap, sym, ◌∙◌}
 use mathlib.Core.List.{List, []}

@@ -1,4 +1,3 @@
--- Numbers taken one after another: those below i are the numbers of their bytes.
 use Prim.Native.Nat.{ℕ, ◌+◌, ◌*◌, ◌-◌}
 use mathlib.Core.Path.{refl, ◌∙◌}
 use native.Mathlib.Omega.{arith}

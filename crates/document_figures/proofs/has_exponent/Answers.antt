@@ -1,4 +1,3 @@
--- `figures::has_exponent` meets its contract: what is left has an exponent just if the number has.
 use Prim.Native.Nat.{◌-◌}
 use Rattle.document_figures.proofs.Bytes.{exponents}
 use Rattle.document_figures.proofs.has_exponent.Goals as goal

@@ -1,4 +1,4 @@
--- `figures::has_exponent` meets its contract: what is left has an exponent just if the number has.
+-- `document_figures::has_exponent` meets its contract: what is left has an exponent just if the number has.
 use Prim.Native.Nat.{◌≤◌, ◌-◌}
 use mathlib.Core.Path.{◌≡◌}
 use lib.ListN.{length, drop}

@@ -1,4 +1,4 @@
--- `figures::has_millionths` meets its contract: a fraction of at most six digits has none behind them.
+-- `document_figures::has_millionths` meets its contract: a fraction of at most six digits has none behind them.
 use mathlib.Core.Path.{ap, ◌∙◌}
 use native.Mathlib.Omega.{arith}
 use Rattle.document_figures.specs.Figures.{all_zero}

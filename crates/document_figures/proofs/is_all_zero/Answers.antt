@@ -1,4 +1,3 @@
--- `figures::is_all_zero` meets its contract: what is left is all zero just if the whole is.
 use Prim.Native.Nat.{◌-◌}
 use Rattle.document_figures.proofs.Bytes.{zeros}
 use Rattle.document_figures.proofs.is_all_zero.Goals as goal

@@ -1,4 +1,4 @@
--- `figures::is_all_zero` meets its contract: what is left is all zero just if the whole is.
+-- `document_figures::is_all_zero` meets its contract: what is left is all zero just if the whole is.
 use Prim.Native.Nat.{◌≤◌, ◌-◌}
 use mathlib.Core.Path.{◌≡◌}
 use lib.ListN.{length, drop}

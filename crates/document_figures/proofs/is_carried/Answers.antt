@@ -1,4 +1,4 @@
--- `figures::is_carried` meets its contract: a number that is not too long is carried just if it has no exponent.
+-- `document_figures::is_carried` meets its contract: a number that is not too long is carried just if it has no exponent.
 use mathlib.Core.Path.{ap, ◌∙◌}
 use mathlib.Core.Bool.{not}
 use native.Mathlib.Omega.{arith}

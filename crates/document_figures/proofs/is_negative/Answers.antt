@@ -1,4 +1,4 @@
--- `figures::is_negative` meets its contract: the first byte tells.
+-- `document_figures::is_negative` meets its contract: the first byte tells.
 use Rattle.document_figures.proofs.Bytes.{negative_none, negative_first}
 use Rattle.document_figures.proofs.is_negative.Goals as goal
 

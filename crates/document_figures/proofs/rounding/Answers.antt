@@ -1,4 +1,4 @@
--- `figures::rounding` meets its contract: the first digit tells.
+-- `document_figures::rounding` meets its contract: the first digit tells.
 use native.Mathlib.Omega.{arith}
 use Rattle.document_figures.proofs.Bytes.{up_none, up_below, up_half}
 use Rattle.document_figures.proofs.rounding.Goals as goal

@@ -1,4 +1,4 @@
--- `number::amount_from` meets its contract: its two tests are those of the range.
+-- `document_numbers::amount_from` meets its contract: its two tests are those of the range.
 use borrow.Author.Tests.{le-leb, lt-leb}
 use Rattle.document_numbers.proofs.amount_from.Goals as goal
 

@@ -1,4 +1,3 @@
--- `number::counted` meets its contract: v is what the digits passed count.
 use Prim.Native.Nat.{◌-◌}
 use native.Mathlib.Omega.{arith}
 use Rattle.document_numbers.proofs.Digits.{counted_fits, counting}

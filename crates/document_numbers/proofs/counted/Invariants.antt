@@ -1,4 +1,4 @@
--- `number::counted` meets its contract: v is what the digits passed count.
+-- `document_numbers::counted` meets its contract: v is what the digits passed count.
 use Prim.Native.Nat.{◌-◌}
 use lib.ListN.{length}
 use Rattle.document_numbers.proofs.Digits.{Counted}

@@ -1,4 +1,4 @@
--- `number::decimal_at` meets its contract: the bytes from the place to behind the number are those that it is written with.
+-- `document_numbers::decimal_at` meets its contract: the bytes from the place to behind the number are those that it is written with.
 use Rattle.document_numbers.proofs.Written.{written_none, written_is}
 use Rattle.document_numbers.proofs.decimal_at.Goals as goal
 

@@ -1,4 +1,4 @@
--- `number::decimal_of` meets its contract: each answer follows from the parts found by then (Answers).
+-- `document_numbers::decimal_of` meets its contract: each answer follows from the parts found by then (Answers).
 use Rattle.document_numbers.proofs.Answers.{parts, decimals}
 use Rattle.document_numbers.proofs.decimal_of.Goals as goal
 

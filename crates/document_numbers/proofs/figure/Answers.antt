@@ -1,4 +1,4 @@
--- `number::figure` meets its contract: its tests are the rows of the table.
+-- `document_numbers::figure` meets its contract: its tests are the rows of the table.
 use Rattle.document_numbers.proofs.Digits.{figures}
 use Rattle.document_numbers.proofs.figure.Goals as goal
 

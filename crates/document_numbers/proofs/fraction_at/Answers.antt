@@ -1,4 +1,4 @@
--- `number::fraction_at` meets its contract: what is left behind the point, or at the end.
+-- `document_numbers::fraction_at` meets its contract: what is left behind the point, or at the end.
 use Rattle.document_numbers.proofs.Point.{fractions}
 use Rattle.document_numbers.proofs.fraction_at.Goals as goal
 

@@ -1,4 +1,4 @@
--- `number::integer_among` meets its contract: its two tests are those of the range.
+-- `document_numbers::integer_among` meets its contract: its two tests are those of the range.
 use borrow.Author.Tests.{le-leb, lt-leb}
 use Rattle.document_numbers.proofs.integer_among.Goals as goal
 

@@ -1,4 +1,4 @@
--- `number::integer_of` meets its contract: each answer follows from the parts found by then (Answers).
+-- `document_numbers::integer_of` meets its contract: each answer follows from the parts found by then (Answers).
 use native.Mathlib.Omega.{arith}
 use Rattle.document_figures.proofs.Bytes.{up_one}
 use Rattle.document_numbers.proofs.Answers.{parts, integers}

@@ -1,4 +1,3 @@
--- `number::padded` meets its contract: n is v with the digits passed behind it.
 use Prim.Native.Nat.{◌-◌}
 use native.Mathlib.Omega.{arith}
 use Rattle.document_numbers.proofs.Digits.{padded_fits, padding}

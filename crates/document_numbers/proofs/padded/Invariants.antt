@@ -1,4 +1,4 @@
--- `number::padded` meets its contract: n is v with the digits passed behind it.
+-- `document_numbers::padded` meets its contract: n is v with the digits passed behind it.
 use Prim.Native.Nat.{◌-◌}
 use Rattle.document_numbers.proofs.Digits.{Padded}
 use Rattle.document_numbers.proofs.padded.Given as goal

@@ -1,4 +1,3 @@
--- `number::point_at` meets its contract: no byte passed is the point.
 use Prim.Native.Nat.{◌-◌}
 use Rattle.document_numbers.proofs.Point.{points}
 use Rattle.document_numbers.proofs.point_at.Goals as goal

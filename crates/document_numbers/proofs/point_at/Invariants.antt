@@ -1,4 +1,4 @@
--- `number::point_at` meets its contract: no byte passed is the point.
+-- `document_numbers::point_at` meets its contract: no byte passed is the point.
 use Prim.Native.Nat.{◌-◌}
 use lib.ListN.{length}
 use Rattle.document_numbers.proofs.Point.{NoPoint}

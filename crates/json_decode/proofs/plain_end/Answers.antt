@@ -1,4 +1,3 @@
--- Characters that are spelled as they are, of one byte or of several, are passed over. The measure is what is left of the text.
 use Prim.Native.Nat.{◌-◌}
 use mathlib.Core.Path.{sym, ◌∙◌}
 use native.Mathlib.Omega.{arith}

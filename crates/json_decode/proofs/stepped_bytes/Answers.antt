@@ -1,4 +1,3 @@
--- A byte of the text gives nothing yet, or its bytes: the rest of the string is what is left at the spot. The measure is what is left of the text.
 use Prim.Native.Nat.{◌-◌}
 use mathlib.Core.Path.{sym, ◌∙◌}
 use Rattle.json_decode.proofs.Ahead.{rest_ends, turn_goes, turn_ends, turn_on, left_here, gives_over, gives_bytes}

@@ -1,4 +1,3 @@
--- Laying what is left of the part into the buffer as it stands makes the buffer that is asked for. The measure is what is left of the part.
 use native.Mathlib.Omega.{arith}
 use Prim.Native.Nat.{◌-◌}
 use Rattle.json_lay.proofs.Runs.{copies_none, copies_one, copies_all}

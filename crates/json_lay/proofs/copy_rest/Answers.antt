@@ -1,5 +1,3 @@
--- Laying what is left of the string into the buffer as it stands makes the buffer that is asked for.
--- The measure is what is left of the text.
 use Prim.Native.Nat.{◌-◌}
 use mathlib.Core.Path.{refl, ◌∙◌}
 use native.Mathlib.Omega.{arith}

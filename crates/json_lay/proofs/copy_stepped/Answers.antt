@@ -1,4 +1,3 @@
--- Laying what is left of the string into the buffer as it stands makes the buffer that is asked for. The measure is what is left.
 use Prim.Native.Nat.{◌+◌}
 use mathlib.Core.Path.{sym, ap}
 use native.Mathlib.Omega.{arith}

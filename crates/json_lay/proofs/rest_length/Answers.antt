@@ -1,4 +1,3 @@
--- The bytes passed and those that are left are what is counted. The measure is what is left of the text.
 use Prim.Native.Nat.{◌-◌}
 use mathlib.Core.Path.{ap}
 use lib.ListN.{length}

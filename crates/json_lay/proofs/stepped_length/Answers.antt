@@ -1,4 +1,3 @@
--- The bytes passed and those that are left are what is counted. The measure is what is left.
 use mathlib.Core.Path.{ap}
 use lib.ListN.{length}
 use native.Mathlib.Omega.{arith}

@@ -1,5 +1,3 @@
--- Behind the closing bracket. The loop: skipping on from i, with so many brackets open, the sought one among them, ends where skipping from `at`
--- does. No more are open than bytes were passed.
 use Prim.Native.Nat.{◌-◌}
 use lib.ListN.{get_or}
 use native.Mathlib.Omega.{arith}

@@ -1,4 +1,3 @@
--- Behind a number. The loop: skipping on from i ends where skipping from `at` does.
 use Prim.Native.Nat.{◌-◌}
 use Rattle.json_grammar.proofs.Moves.{lead_start, lead_here, lead_one, lead_end, moved}
 use Rattle.json_move.proofs.Skips.{number_goes, number_stops, number_over}

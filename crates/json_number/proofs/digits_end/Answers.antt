@@ -1,4 +1,3 @@
--- Each digit passed leads back to the same part, so the number ends where it ended.
 use Prim.Native.Nat.{◌-◌}
 use native.Mathlib.Omega.{arith}
 use Rattle.json_grammar.specs.Part.{number_stop}

@@ -1,4 +1,3 @@
--- Where the number ends is asked of the rest; a number that may end has a byte.
 use Prim.Native.Nat.{◌-◌}
 use mathlib.Core.Path.{refl}
 use mathlib.Core.Bool.{true, false, false≢true}

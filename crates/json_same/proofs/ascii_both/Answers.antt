@@ -1,4 +1,3 @@
--- Plain ASCII characters that both begin with are passed over. The measure is what is left of the text.
 use native.Mathlib.Omega.{arith}
 use Prim.Native.Nat.{◌-◌}
 use mathlib.Core.Path.{sym, ◌∙◌}

@@ -1,4 +1,3 @@
--- The bytes ahead of both cursors are compared. The measure is what is ahead of the first.
 use Rattle.json_decode.proofs.Ahead.{ahead_falls}
 use Rattle.json_same.proofs.Turns.{beside_both, both_end, other_ends, both_differ, both_on}
 use Rattle.json_same.proofs.rest_same.Goals as goal

@@ -1,4 +1,3 @@
--- At each place the rest is walked as it is from the start; each turn moves ahead.
 use Prim.Native.Nat.{◌-◌}
 use mathlib.Core.List.{[], ◌∷◌}
 use native.Mathlib.Omega.{arith}

@@ -1,4 +1,3 @@
--- The letters of the word that are left are asked of the rest of the text.
 use Prim.Native.Nat.{◌-◌}
 use mathlib.Core.Path.{sym, ◌∙◌}
 use native.Mathlib.Omega.{arith}

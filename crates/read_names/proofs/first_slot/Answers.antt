@@ -1,4 +1,3 @@
--- The bytes passed are hashed, and those from i on are the rest. The measure is what is left of the text.
 use Prim.Native.Nat.{◌-◌}
 use mathlib.Core.Path.{sym, ap, ◌∙◌}
 use mathlib.Core.Bool.{not}

@@ -1,4 +1,3 @@
--- The names of the members left are looked for in the row.
 use mathlib.Core.Path.{sym, ap, ◌∙◌}
 use mathlib.Core.Bool.{not}
 use Rattle.read_names.specs.Names.{members_in, is_in}

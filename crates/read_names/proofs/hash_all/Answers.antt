@@ -1,4 +1,3 @@
--- The bytes before i are hashed behind h. The measure is what is left of the part.
 use Prim.Native.Nat.{◌-◌}
 use mathlib.Core.Path.{refl, sym, ◌∙◌}
 use native.Mathlib.Omega.{arith}

@@ -1,4 +1,3 @@
--- The bytes before i are hashed. The measure is what is left of the text.
 use Prim.Native.Nat.{◌-◌}
 use mathlib.Core.Path.{refl, sym, ◌∙◌}
 use Rattle.read_names.specs.Names.{hash_of}

@@ -1,4 +1,3 @@
--- The rest of the row is looked through. The measure is what is left of it.
 use Prim.Native.Nat.{◌-◌}
 use mathlib.Core.Path.{refl, ◌∙◌}
 use native.Mathlib.Omega.{arith}

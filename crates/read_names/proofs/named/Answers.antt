@@ -1,4 +1,3 @@
--- The letters passed are packed and those from i on are the rest; over these the way leads to the value. The measure is what is left of the text.
 use Prim.Native.Nat.{◌-◌}
 use mathlib.Core.Path.{sym, ap, ◌∙◌}
 use mathlib.Core.Bool.{not}

@@ -1,4 +1,3 @@
--- The letters passed are packed, and those left at the spot are the rest. The measure is what is left.
 use mathlib.Core.Path.{◌∙◌}
 use native.Mathlib.Omega.{arith}
 use borrow.Author.Rules.{rules}

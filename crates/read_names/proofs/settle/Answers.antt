@@ -1,4 +1,3 @@
--- No name stood twice; the members passed are settled, and the others stand at q. The measure is what is left of the length.
 use Prim.Native.Nat.{◌-◌}
 use mathlib.Core.Path.{refl, sym, ap, ◌∙◌}
 use lib.ListN.{get_or-replicate}

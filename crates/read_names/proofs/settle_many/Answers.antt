@@ -1,4 +1,3 @@
--- The members passed are settled, their names are in the table, and the others stand at q. The measure is what is left of the length.
 use Prim.Native.Nat.{ℕ, ◌-◌}
 use mathlib.Core.Path.{refl, sym, ◌∙◌}
 use lib.ListN.{length-replicate, get_or-replicate}

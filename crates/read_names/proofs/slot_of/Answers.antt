@@ -1,4 +1,3 @@
--- The slots passed have the names of others. The measure is how many are left.
 use Prim.Native.Nat.{◌-◌}
 use mathlib.Core.Path.{sym, ◌∙◌}
 use Rattle.read_names.proofs.Searching.{sought_near, sought_far, search_none, search_empty, search_found, search_on, search_over}

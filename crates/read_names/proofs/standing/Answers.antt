@@ -1,4 +1,3 @@
--- Those passed are counted. The measure is what is left of the row.
 use Prim.Native.Nat.{◌-◌}
 use lib.ListN.{get_or}
 use native.Mathlib.Omega.{arith}

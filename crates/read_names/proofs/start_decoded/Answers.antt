@@ -1,4 +1,3 @@
--- The bytes passed are hashed, and those left at the spot are the rest. The measure is what is left.
 use mathlib.Core.Path.{sym, ap, ◌∙◌}
 use native.Mathlib.Omega.{arith}
 use Rattle.read_names.specs.Names.{hash_from}

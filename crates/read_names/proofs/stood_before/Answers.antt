@@ -1,4 +1,3 @@
--- The names that are left are compared, one after the other.
 use mathlib.Core.Path.{sym, ◌∙◌}
 use Rattle.read_names.proofs.Before.{before_here, before_on, before_none}
 use Rattle.read_names.proofs.stood_before.Goals as goal

@@ -1,4 +1,3 @@
--- The letters before i are packed behind the name, and the rest of the part is ahead. The measure is what is left of the part.
 use Prim.Native.Nat.{◌-◌}
 use mathlib.Core.Path.{refl}
 use native.Mathlib.Omega.{arith}

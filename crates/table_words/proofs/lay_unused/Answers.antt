@@ -1,4 +1,3 @@
--- The words of unused records, to the end.
 use native.Mathlib.Omega.{arith}
 use Rattle.document.specs.Table.{no_record}
 use Rattle.document.specs.Words.{record_words}

@@ -1,4 +1,3 @@
--- Storing what is left of the bytes in the buffer as it stands makes the buffer that is asked for.
 use mathlib.Core.Path.{refl, ◌∙◌}
 use Prim.Native.Nat.{◌-◌}
 use native.Mathlib.Nat.{add-zero}

@@ -1,4 +1,3 @@
--- The run so far is put: what is left to put of the string goes on behind it.
 use mathlib.Core.Path.{refl}
 use Prim.Native.Nat.{◌+◌, ◌-◌, ◌<◌}
 use native.Mathlib.Omega.{arith}

@@ -1,4 +1,3 @@
--- The words looked at so far decide the answer so far.
 use Prim.Native.Nat.{◌-◌, ◌*◌}
 use native.Mathlib.Omega.{arith}
 use borrow.Author.Rules.{rules}

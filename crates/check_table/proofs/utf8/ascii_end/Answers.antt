@@ -1,4 +1,3 @@
--- The bytes passed are ASCII, so that those from here on are as well formed as all.
 use Prim.Native.Nat.{◌-◌}
 use mathlib.Core.Path.{refl, ◌∙◌}
 use native.Mathlib.Omega.{arith}

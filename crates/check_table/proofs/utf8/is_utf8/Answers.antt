@@ -1,4 +1,3 @@
--- What is read so far leaves the rest to be well formed behind what is open; where nothing is open, behind a run of ASCII too.
 use Prim.Native.Nat.{◌+◌, ◌-◌}
 use Rattle.check_table.proofs.Tailed.{not_wrong, rest_start, rest_next, rest_skip, rest_wrong, rest_end}
 use Rattle.check_table.proofs.utf8.is_utf8.Goals as goal

@@ -1,4 +1,3 @@
--- The days of the months before one, a month a turn.
 use mathlib.Core.Path.{ap, ◌∙◌}
 use native.Mathlib.Omega.{arith}
 use borrow.Author.Rules.{rules}

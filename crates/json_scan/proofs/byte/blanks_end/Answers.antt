@@ -1,4 +1,3 @@
--- What is left behind blanks is the same from every blank passed.
 use Prim.Native.Nat.{◌-◌}
 use mathlib.Core.Path.{sym, ◌∙◌}
 use Rattle.json_grammar.specs.Byte.{blanked}

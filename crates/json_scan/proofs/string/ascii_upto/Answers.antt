@@ -1,4 +1,3 @@
--- Each byte passed is a character of its own, so the string ends where it ended.
 use Prim.Native.Nat.{◌-◌}
 use mathlib.Core.Path.{sym, ◌∙◌}
 use native.Mathlib.Omega.{arith}

@@ -1,4 +1,3 @@
--- As long as each byte passed is plain ASCII, each is a character of its own.
 use Prim.Native.Nat.{◌-◌}
 use mathlib.Core.Path.{◌≡◌, sym, ◌∙◌}
 use native.Mathlib.Nat.{add-zero, add_assoc}

@@ -1,4 +1,3 @@
--- Sixteen at a time, each a character of its own.
 use Prim.Native.Nat.{◌-◌}
 use Rattle.json_grammar.specs.Part.{string_stop}
 use Rattle.json_grammar.specs.declared.string.InString.TheVariants.{Plain}

@@ -1,4 +1,3 @@
--- Where the string ends is asked of the rest, in the state that the bytes passed lead to.
 use Prim.Native.Nat.{◌-◌}
 use mathlib.Core.Path.{sym, ◌∙◌}
 use native.Mathlib.Omega.{arith}

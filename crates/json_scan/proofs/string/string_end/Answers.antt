@@ -1,4 +1,3 @@
--- Each character passed leaves where the string ends as it was; the rest is asked of the states.
 use Prim.Native.Nat.{◌-◌}
 use mathlib.Core.Path.{sym}
 use native.Mathlib.Omega.{arith}

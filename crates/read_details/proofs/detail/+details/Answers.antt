@@ -1,5 +1,3 @@
--- Details and sequences, which call one another: the sequences still allowed fall from a sequence to those inside it, and each call between two of them
--- falls by one. The objects of a list are read in turn: each takes a record, and what is left of the list settles the whole (`Going`).
 use mathlib.Core.Path.{refl, ap, sym, ◌∙◌}
 use mathlib.Core.List.{[], ◌∷◌}
 use Prim.Native.Nat.{suc, ◌-◌}

@@ -1,4 +1,4 @@
--- `dosages::application::application_fields` meets its contract: an application, its dosage below it.
+-- `read_dosages::application::application_fields` meets its contract: an application, its dosage below it.
 use mathlib.Core.Path.{refl, ap, sym, ◌∙◌}
 use lib.ListN.{length, length-set}
 use native.Mathlib.Omega.{arith}

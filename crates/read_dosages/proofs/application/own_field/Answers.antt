@@ -1,4 +1,4 @@
--- `dosages::application::own_field` meets its contract: one answer for each kind of application.
+-- `read_dosages::application::own_field` meets its contract: one answer for each kind of application.
 use Rattle.read_dosages.proofs.Applied.{time_own, time_still}
 use Rattle.read_dosages.proofs.application.own_field.Goals as goal
 

@@ -1,4 +1,4 @@
--- `dosages::application::read_application` meets its contract: an application opened, with a record left for it.
+-- `read_dosages::application::read_application` meets its contract: an application opened, with a record left for it.
 use mathlib.Core.Path.{refl, sym, ◌∙◌}
 use mathlib.Core.List.{[]}
 use borrow.Author.Tests.{leb-true, leb-false}

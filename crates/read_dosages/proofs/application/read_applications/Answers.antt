@@ -1,5 +1,3 @@
--- `dosages::application::read_applications` meets its contract: each turn of the loop reads one element, and what is left settles the whole list.
--- Each application takes a record, so the records left fall.
 use Prim.Native.Nat.{◌-◌}
 use mathlib.Core.Path.{refl, sym, ◌∙◌}
 use native.Mathlib.Omega.{arith}

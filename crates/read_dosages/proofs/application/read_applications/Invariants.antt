@@ -1,4 +1,4 @@
--- `dosages::application::read_applications` meets its contract: each turn of the loop reads one element, and what is left settles the whole list.
+-- `read_dosages::application::read_applications` meets its contract: each turn of the loop reads one element, and what is left settles the whole list.
 -- Each application takes a record, so the records left fall.
 use Prim.Native.Nat.{◌≤◌, ◌-◌}
 use mathlib.Core.Path.{◌≡◌}

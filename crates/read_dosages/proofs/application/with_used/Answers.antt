@@ -1,4 +1,4 @@
--- `dosages::application::with_used` meets its contract: by the field.
+-- `read_dosages::application::with_used` meets its contract: by the field.
 use mathlib.Core.Path.{ap, sym}
 use Rattle.read_fields.specs.declared.field.Field.{Field}
 use Rattle.read_dosages.specs.Visiting.{time_told}

@@ -1,4 +1,4 @@
--- `dosages::dosage::range` meets its contract: a dosage of type 3, field by field.
+-- `read_dosages::dosage::range` meets its contract: a dosage of type 3, field by field.
 use mathlib.Core.Path.{refl, ap, sym, ◌∙◌}
 use native.Mathlib.Omega.{arith}
 use lib.ListN.{length, length-set}

@@ -1,4 +1,4 @@
--- `dosages::dosage::read_below` meets its contract: a dosage that must be there.
+-- `read_dosages::dosage::read_below` meets its contract: a dosage that must be there.
 use native.Mathlib.Omega.{arith}
 use mathlib.Core.Path.{refl}
 use Rattle.document.specs.Schema.{a_dosage}

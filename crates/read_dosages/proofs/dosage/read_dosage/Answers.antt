@@ -1,4 +1,4 @@
--- `dosages::dosage::read_dosage` meets its contract: a dosage by its type.
+-- `read_dosages::dosage::read_dosage` meets its contract: a dosage by its type.
 use mathlib.Core.Path.{refl, sym, ◌∙◌}
 use mathlib.Core.List.{[], ◌∷◌}
 use native.Mathlib.Omega.{arith}

@@ -1,4 +1,4 @@
--- `dosages::dosage::simple` meets its contract: a dosage of type 1.
+-- `read_dosages::dosage::simple` meets its contract: a dosage of type 1.
 use mathlib.Core.Path.{refl, ap, sym}
 use native.Mathlib.Omega.{arith}
 use lib.ListN.{length, length-set}

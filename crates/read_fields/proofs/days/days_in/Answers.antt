@@ -1,4 +1,3 @@
--- The days are read element by element; those read so far are marked.
 use mathlib.Core.Path.{refl, sym, ◌∙◌}
 use mathlib.Core.Logic.{inl, inr}
 use mathlib.Core.Bool.{false}

@@ -1,4 +1,3 @@
--- The marked days as bits: the marks gathered up to a day, and the next power.
 use Prim.Native.Nat.{◌+◌, ◌-◌}
 use mathlib.Core.Bool.{false}
 use lib.ListN.{get_or}

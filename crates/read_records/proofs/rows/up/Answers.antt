@@ -1,4 +1,4 @@
--- `records::rows::up` passes a refusal up.
+-- `read_records::rows::up` passes a refusal up.
 
 use Rattle.read_records.proofs.rows.up.Goals as goal
 

@@ -1,4 +1,4 @@
--- `records::rows::up_counted` passes a refusal up.
+-- `read_records::rows::up_counted` passes a refusal up.
 
 use Rattle.read_records.proofs.rows.up_counted.Goals as goal
 

@@ -1,4 +1,4 @@
--- `records::rows::up_four` passes a refusal up.
+-- `read_records::rows::up_four` passes a refusal up.
 
 use Rattle.read_records.proofs.rows.up_four.Goals as goal
 

@@ -1,4 +1,3 @@
--- The loop keeps the entries passed, the set of their numbers and what is told of them; each way out is a law of Turns.
 use mathlib.Core.Path.{sym, ◌∙◌}
 use Prim.Native.Nat.{◌-◌}
 use native.Mathlib.Omega.{arith}

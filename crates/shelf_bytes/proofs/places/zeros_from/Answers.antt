@@ -1,4 +1,3 @@
--- What was passed is zeros, so what is left decides.
 use mathlib.Core.Path.{refl, sym, ◌∙◌}
 use Prim.Native.Nat.{◌-◌}
 use native.Mathlib.Omega.{arith}
