@@ -76,9 +76,9 @@ step_behind b (an_object ∷ k) =
     choose (eqb b 125) (λ _. shut (an_object ∷ k)) λ _. wrong
 
 abbrev pub step_chars : (InString → Mode) → Mode → CharStep → List Frame → Next
-step_chars inside behind_it (Goes c) k = go (inside c) k
-step_chars inside behind_it Closes k = go behind_it k
-step_chars inside behind_it Refuses k = wrong
+step_chars inside closed (Goes c) k = go (inside c) k
+step_chars inside closed Closes k = go closed k
+step_chars inside closed Refuses k = wrong
 
 -- A number ends at a byte that does not go on with it; that byte stands behind the value.
 abbrev pub step_digits : InNumber → DigitStep → ℕ → List Frame → Next
