@@ -1,13 +1,10 @@
 -- Months that are none, and the order of two dates of the table.
 use mathlib.Core.Path.{◌≡◌, refl}
-use mathlib.Core.List.{[], ◌∷◌}
 use mathlib.Core.Bool.{Bool, true, false}
 use mathlib.Core.Option.{Option, none, some}
 use Prim.Native.Nat.{ℕ, ◌+◌, ◌≤◌}
 use native.Mathlib.Omega.{arith}
 use lib.Dec.{leb}
-use types.Run.{OneOf, miss}
-use denote.Enum.Declared.{tag_of}
 use borrow.Author.Tests.{le-leb, ne_eqb}
 use Rattle.document.specs.Posology as P
 use Rattle.document.specs.Date.{days_in}
@@ -15,7 +12,6 @@ use Rattle.document.specs.Moments.{written, written_if, in_written_order, minute
 use Rattle.document.specs.Untable.{date_of, zone_of}
 use Rattle.document.specs.declared.table.Date.{Date}
 use Rattle.document.specs.declared.table.Date.TheVariants as D
-use Rattle.document.specs.contracts.table.Date as date
 
 pub no_month : (y m : ℕ) → (m ≡ 1 → ⊥) → (m ≡ 2 → ⊥) → (m ≡ 3 → ⊥) → (m ≡ 4 → ⊥) → (m ≡ 5 → ⊥) → (m ≡ 6 → ⊥) → (m ≡ 7 → ⊥) → (m ≡ 8 → ⊥) → (m ≡ 9 → ⊥) → (m ≡ 10 → ⊥) → (m ≡ 11 → ⊥) → (m ≡ 12 → ⊥) → 0 ≡ days_in y m
 unfolding days_in

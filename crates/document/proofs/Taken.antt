@@ -1,12 +1,12 @@
 -- What is taken behind a record and behind a string, and how reading goes on.
-use mathlib.Core.Path.{◌≡◌, refl, sym, ap, ◌∙◌, subst}
+use mathlib.Core.Path.{◌≡◌, refl, sym, ap, ◌∙◌}
 use mathlib.Core.List.{List}
 use mathlib.Core.Bool.{true, false}
-use Prim.Native.Nat.{ℕ, ◌+◌, ◌-◌, ◌<◌, ◌≤◌}
+use Prim.Native.Nat.{ℕ, ◌-◌, ◌<◌, ◌≤◌}
 use native.Mathlib.Omega.{arith}
 use borrow.Author.Tests.{le-leb, lt-leb, lt-ltb, le-ltb}
 use lib.Dec.{leb, ltb}
-use Rattle.document.specs.Visit.{State, start, opened, laid, Outcome, done, bind}
+use Rattle.document.specs.Visit.{State, start, opened, laid, Outcome, bind}
 use Rattle.document.specs.Told.{Tells, none_used, more, one_more, longer, Still, Hands, GoesOn}
 use Rattle.document.specs.declared.terms.Terms.{Terms}
 use Rattle.document.specs.declared.terms.Used.{Used}

@@ -12,7 +12,7 @@ use native.Mathlib.Omega.{arith}
 use Rattle.json_grammar.specs.Tree.{Place}
 use Rattle.json_move.specs.Moving.{kind_of}
 use Rattle.json_move.specs.Read.{decoded}
-use Rattle.json_lay.specs.Strings.{laid, buffered, fits}
+use Rattle.json_lay.specs.Strings.{laid, buffered}
 use Rattle.json_lay.specs.declared.Laid.{Laid}
 use Rattle.json_lay.specs.declared.Laid.TheVariants as B
 use Rattle.document.specs.Posology as P

@@ -1,7 +1,7 @@
 -- The kind of a value, by its first byte and by its tree.
 use Prim.Native.Nat.{ℕ}
 use mathlib.Core.Path.{◌≡◌, refl}
-use mathlib.Core.List.{List, [], ◌∷◌}
+use mathlib.Core.List.{List}
 use mathlib.Core.Bool.{true, false}
 use Rattle.json_grammar.specs.Tree.{Place, Tree, object, list, string, number, bool, null}
 use Rattle.json_grammar.specs.Grammar.{Value, an_empty_object, an_object, an_empty_list, a_list, a_string, a_number, a_true, a_false, a_null}

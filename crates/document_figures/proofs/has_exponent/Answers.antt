@@ -1,4 +1,3 @@
-use Prim.Native.Nat.{◌-◌}
 use Rattle.document_figures.proofs.Bytes.{exponents}
 use Rattle.document_figures.proofs.has_exponent.Goals as goal
 

@@ -1,4 +1,3 @@
-use Prim.Native.Nat.{◌-◌}
 use Rattle.document_figures.proofs.Bytes.{zeros}
 use Rattle.document_figures.proofs.is_all_zero.Goals as goal
 

@@ -1,4 +1,3 @@
-use Prim.Native.Nat.{◌-◌}
 use native.Mathlib.Omega.{arith}
 use Rattle.document_numbers.proofs.Digits.{counted_fits, counting}
 use Rattle.document_numbers.proofs.counted.Goals as goal

@@ -1,4 +1,3 @@
-use Prim.Native.Nat.{◌-◌}
 use native.Mathlib.Omega.{arith}
 use Rattle.document_numbers.proofs.Digits.{padded_fits, padding}
 use Rattle.document_numbers.proofs.padded.Goals as goal

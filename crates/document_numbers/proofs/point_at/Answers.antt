@@ -1,4 +1,3 @@
-use Prim.Native.Nat.{◌-◌}
 use Rattle.document_numbers.proofs.Point.{points}
 use Rattle.document_numbers.proofs.point_at.Goals as goal
 

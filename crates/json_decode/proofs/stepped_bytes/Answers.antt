@@ -1,4 +1,3 @@
-use Prim.Native.Nat.{◌-◌}
 use mathlib.Core.Path.{sym, ◌∙◌}
 use Rattle.json_decode.proofs.Ahead.{rest_ends, turn_goes, turn_ends, turn_on, left_here, gives_over, gives_bytes}
 use Rattle.json_decode.proofs.stepped_bytes.Goals as goal

@@ -1,5 +1,4 @@
 use native.Mathlib.Omega.{arith}
-use Prim.Native.Nat.{◌-◌}
 use Rattle.json_lay.proofs.Runs.{copies_none, copies_one, copies_all}
 use Rattle.json_lay.proofs.copy_plain.Goals as goal
 

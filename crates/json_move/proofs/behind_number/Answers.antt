@@ -1,4 +1,3 @@
-use Prim.Native.Nat.{◌-◌}
 use Rattle.json_grammar.proofs.Moves.{lead_start, lead_here, lead_one, lead_end, moved}
 use Rattle.json_move.proofs.Skips.{number_goes, number_stops, number_over}
 use Rattle.json_move.proofs.behind_number.Goals as goal

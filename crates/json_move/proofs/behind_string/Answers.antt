@@ -1,4 +1,3 @@
-use Prim.Native.Nat.{◌-◌}
 use Rattle.json_grammar.proofs.Moves.{lead_start, lead_one, lead_end, moved}
 use Rattle.json_move.proofs.Skips.{string_closes, string_escapes, string_goes, string_over, escape_goes, escape_over}
 use Rattle.json_move.proofs.behind_string.Goals as goal

@@ -1,4 +1,3 @@
-use Prim.Native.Nat.{◌-◌}
 use Rattle.json_move.proofs.Counts.{counted_none, counted_more, counted_end, counted_all}
 use Rattle.json_move.proofs.count.Goals as goal
 

@@ -1,4 +1,3 @@
-use Prim.Native.Nat.{◌-◌}
 use native.Mathlib.Omega.{arith}
 use Rattle.json_grammar.specs.Part.{number_stop}
 use Rattle.json_grammar.proofs.Passes.{passes_none, passes_one, skips}

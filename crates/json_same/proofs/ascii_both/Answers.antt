@@ -1,5 +1,4 @@
 use native.Mathlib.Omega.{arith}
-use Prim.Native.Nat.{◌-◌}
 use mathlib.Core.Path.{sym, ◌∙◌}
 use Rattle.json_same.proofs.Pairs.{paired_none, paired_one}
 use Rattle.json_same.proofs.ascii_both.Goals as goal

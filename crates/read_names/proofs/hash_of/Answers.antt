@@ -1,4 +1,3 @@
-use Prim.Native.Nat.{◌-◌}
 use mathlib.Core.Path.{refl, sym, ◌∙◌}
 use Rattle.read_names.specs.Names.{hash_of}
 use Rattle.read_names.proofs.Hashing.{hash_at, hash_all, hash_most}

@@ -1,4 +1,4 @@
-use Prim.Native.Nat.{ℕ, ◌-◌}
+use Prim.Native.Nat.{ℕ}
 use mathlib.Core.Path.{refl, sym, ◌∙◌}
 use lib.ListN.{length-replicate, get_or-replicate}
 use Rattle.read_names.proofs.Slots.{noted_known, noted_other}

@@ -1,4 +1,3 @@
-use Prim.Native.Nat.{◌-◌}
 use mathlib.Core.Path.{sym, ◌∙◌}
 use Rattle.read_names.proofs.Searching.{sought_near, sought_far, search_none, search_empty, search_found, search_on, search_over}
 use Rattle.read_names.proofs.slot_of.Goals as goal

@@ -1,4 +1,3 @@
-use Prim.Native.Nat.{◌-◌}
 use lib.ListN.{get_or}
 use native.Mathlib.Omega.{arith}
 use Rattle.read_names.proofs.Counting.{standing_on, standing_none, stands_other, stands_not, stands_one}

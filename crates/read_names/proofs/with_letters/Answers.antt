@@ -1,4 +1,3 @@
-use Prim.Native.Nat.{◌-◌}
 use mathlib.Core.Path.{refl}
 use native.Mathlib.Omega.{arith}
 use Rattle.read_names.proofs.Letters.{letters_end, letters_over, letters_on, part_on, part_ends}

@@ -10,7 +10,7 @@ pub returns-then-at-lt-GREATEST_PLACE : goal.returns-then-at-lt-GREATEST_PLACE
 returns-then-at-lt-GREATEST_PLACE c =
     puts_byte
     (elim c.if-at-out.branch [
-      then-at-out w ↦ w.out-is
+      | then-at-out w ↦ w.out-is
       | else-at-out w ↦ w.out-is ∙ sym (set_out _ _ _ w.if-at-out.false)
     ])
     (omega arith)
@@ -19,7 +19,7 @@ pub returns : goal.returns
 returns c =
     puts_byte
     (elim c.if-at-out.branch [
-      then-at-out w ↦ w.out-is
+      | then-at-out w ↦ w.out-is
       | else-at-out w ↦ w.out-is ∙ sym (set_out _ _ _ w.if-at-out.false)
     ])
     (omega arith)

@@ -1,4 +1,3 @@
-use Prim.Native.Nat.{◌-◌}
 use mathlib.Core.Path.{sym, ◌∙◌}
 use Rattle.json_grammar.specs.Byte.{blanked}
 use Rattle.json_grammar.proofs.Moves.{lead_start, lead_here, lead_one, lead_end, moved}

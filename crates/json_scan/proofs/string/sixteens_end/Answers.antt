@@ -1,4 +1,3 @@
-use Prim.Native.Nat.{◌-◌}
 use Rattle.json_grammar.specs.Part.{string_stop}
 use Rattle.json_grammar.specs.declared.string.InString.TheVariants.{Plain}
 use Rattle.json_grammar.proofs.Passes.{passes_none, skipped, skips}

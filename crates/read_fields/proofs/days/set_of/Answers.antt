@@ -1,4 +1,4 @@
-use Prim.Native.Nat.{◌+◌, ◌-◌}
+use Prim.Native.Nat.{◌+◌}
 use mathlib.Core.Bool.{false}
 use lib.ListN.{get_or}
 use mathlib.Core.Path.{ap, ◌∙◌}
