@@ -13,8 +13,8 @@ use Rattle.json_laws.specs.Leading.{Leading, leading}
 use Rattle.json_laws.proofs.Blanks.{over_blanks}
 use Rattle.json_laws.proofs.Shorter.{value_shorter}
 use Rattle.json_laws.proofs.Spells.{run_sound}
-use Rattle.document.specs.Schema.{an_object, a_posology}
-use Rattle.document.specs.Visit.{Value, entries_of, members, start, visit}
+use Rattle.document.specs.Schema.{a_posology}
+use Rattle.document.specs.Visit.{entries_of, members, start, visit}
 use Rattle.document.specs.declared.terms.Terms.{Terms}
 use Rattle.document_meaning.proofs.Sound.{Utf8Tree}
 use Rattle.document_meaning.proofs.Utf8Texts.{value_utf8}

@@ -1,5 +1,5 @@
 -- What the first posology of a run comes to, by its answer, its head and the words of its records.
-use Rattle.std.specs.Prelude.{ℕ, ◌≡◌, List, length}
+use Rattle.std.specs.Prelude.{ℕ, ◌≡◌, List}
 use Rattle.document.specs.Values.{next_values}
 use Rattle.document.specs.Answer.{ReadNext, read_next, terms_of, read_next_values, next_table_after, next_buffer_after}
 use Rattle.document.specs.Table.{empty_table}

@@ -1,5 +1,5 @@
 -- What the reader's parts leave.
-use Rattle.std.specs.Prelude.{ℕ, ◌≡◌, List, cond, length}
+use Rattle.std.specs.Prelude.{ℕ, ◌≡◌, List, cond}
 use Rattle.json_grammar.specs.Tree.{Place}
 use Rattle.json_grammar.specs.Walk.{end, first_object}
 use Rattle.document.specs.Values.{Values, accepted, number}

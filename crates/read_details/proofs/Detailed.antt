@@ -28,7 +28,6 @@ use Rattle.read_fields.specs.declared.four.Fours.TheVariants as Q
 use Rattle.read_fields.specs.declared.field.Worded.{Worded}
 use Rattle.read_fields.specs.declared.field.Worded.TheVariants as W
 use Rattle.read_records.specs.declared.rows.Visit.{Visit}
-use Rattle.read_records.specs.declared.rows.Visit.TheVariants.{Refused}
 use Rattle.read_type.specs.declared.opened.Object.{Object}
 use Rattle.read_dosages.specs.Visiting.{Did, VisitsNeeded, VisitsTyped, TimedRows}
 use Rattle.read_dosages.specs.Kept.{Grown}

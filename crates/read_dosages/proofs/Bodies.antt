@@ -4,20 +4,19 @@ use Prim.Native.String.{String}
 use mathlib.Core.Path.{◌≡◌, refl, ap, sym, ◌∙◌, subst}
 use mathlib.Core.List.{List, [], ◌∷◌, ◌++◌}
 use mathlib.Core.Bool.{Bool, true, false}
-use mathlib.Core.Option.{Option, some, none}
-use lib.ListN.{length, drop, get_or}
+use mathlib.Core.Option.{Option}
+use lib.ListN.{length, drop}
 use Rattle.json_grammar.specs.Tree.{Place, object, list, Members, Elements}
 use Rattle.json_grammar.specs.Grammar.{Value, an_empty_object, an_object, an_empty_list, a_list}
 use Rattle.document.specs.Bytes.{bytes}
-use Rattle.document.specs.Lookup.{Entry, Found, find, unknown}
-use Rattle.document.specs.Schema as S
+use Rattle.document.specs.Lookup.{Entry, find, unknown}
 use Rattle.document.specs.Schema.{Family, Shape, NumberShape, a_number, Of, Rows, need, may, ListShape, OfFamily, OfList, a_timed, rows_of, types_of, is_record, may_stand, may_open, names}
 use Rattle.document.specs.Visit.{State, opened, Outcome, done, refuse, bind, guard, unless, needed, optional, fields, body, members, entries_of, Value as Waits}
 use Rattle.document.specs.At.{At}
 use Rattle.document.specs.Told.{Tells, more, Hands, GoesOn}
 use Rattle.document.specs.declared.terms.Terms.{Terms}
 use Rattle.document.specs.declared.terms.Used.{Used}
-use Rattle.document.proofs.Taken.{one_left, none_left, tells_opened, goes_as}
+use Rattle.document.proofs.Taken.{one_left, none_left, tells_opened}
 use Rattle.read_names.specs.Names.{row_names}
 use Rattle.read_names.specs.Names as N
 use Rattle.read_fields.specs.Fields.{Refuses, Reads, Counts, CountsFrom, itself, Child, FindsObject, Listing, FindsList}

@@ -28,7 +28,7 @@ use Rattle.read_type.specs.declared.opened.Opened.TheVariants as O
 use Rattle.read_type.specs.declared.opened.Opening.{Opening}
 use Rattle.read_dosages.specs.Visiting.{Under, OpensUnder, OpensTimed, TimedRows, VisitsTyped, VisitsNeeded}
 use Rattle.read_dosages.specs.Kept.{Stands, OpensThere}
-use Rattle.read_dosages.proofs.Bodies.{guard_holds, guard_fails, body_full, typed_as, under_as, finds_child, object_at}
+use Rattle.read_dosages.proofs.Bodies.{guard_fails, body_full, typed_as, under_as, finds_child, object_at}
 use Rattle.read_dosages.proofs.Rowed.{visited_as, visited_still}
 
 pub stands_still : {parent : ℕ} {u : Used} {kind : ℕ} {v : Used} → Stands parent u kind v → Still u v

@@ -1,12 +1,12 @@
 -- The words of records: stores behind stores, and what a visit did from what was done below it.
-use Prim.Native.Nat.{ℕ, suc, ◌+◌, ◌*◌, ◌-◌, ◌<◌, ◌≤◌}
+use Prim.Native.Nat.{ℕ, suc, ◌+◌, ◌*◌, ◌<◌}
 use mathlib.Core.Path.{◌≡◌, refl, ap, sym, ◌∙◌, subst}
 use mathlib.Core.List.{List, [], ◌∷◌, ◌++◌}
 use native.Mathlib.Omega.{arith}
 use lib.ListN.{length, set}
 use lib.Seq.{sets, set_comm}
 use Rattle.document.specs.Visit.{State, Outcome, done}
-use Rattle.document.specs.Words.{width, Words, row, rows}
+use Rattle.document.specs.Words.{width, Words, row}
 use Rattle.document.specs.Told.{Tells, Still, GoesOn, more}
 use Rattle.document.specs.declared.terms.Terms.{Terms}
 use Rattle.document.specs.declared.terms.Used.{Used}

@@ -1,5 +1,5 @@
 -- What visiting an object leaves: the value that Visit.antt reads there, as rows of six words behind those before it; or the refusal.
-use Rattle.std.specs.Prelude.{ℕ, ◌+◌, ◌*◌, ◌≤◌, ◌≡◌, List, [], ◌∷◌, Bool, true, false, length, drop}
+use Rattle.std.specs.Prelude.{ℕ, ◌+◌, ◌*◌, ◌≡◌, List, [], ◌∷◌, Bool, true, false, length, drop}
 use Rattle.std.proofs.lemmas.List.Edits.{sets}
 use Rattle.json_grammar.specs.Tree.{Place, object, list, Members, Elements}
 use Rattle.document.specs.Bytes.{bytes}

@@ -15,7 +15,7 @@ use Rattle.document.specs.Lookup.{Entry, find, unknown}
 use Rattle.document.specs.Schema.{Rows, may, a_string, date, a_flag, a_posology, rows_of, posology_rows, names}
 use Rattle.document.specs.Visit.{State, Outcome, unless, Value, entries_of, optional, fields, members}
 use Rattle.document.specs.At.{At, Slot}
-use Rattle.document.specs.Told.{Tells, Still}
+use Rattle.document.specs.Told.{Tells}
 use Rattle.document.specs.declared.table.Date.{Date}
 use Rattle.document.specs.declared.terms.Terms.{Terms}
 use Rattle.document.specs.declared.terms.Used.{Used}
@@ -24,7 +24,6 @@ use Rattle.read_names.specs.Names as N
 use Rattle.read_fields.specs.Fields.{Refuses, Dated, Given, ReadsDate, ReadsFlag, ReadsGiven, flag_number}
 use Rattle.read_fields.proofs.Refusals.{refuses_as}
 use Rattle.read_type.specs.Opens.{OpensAs, Plain}
-use Rattle.read_dosages.specs.Kept.{Ready}
 use Rattle.read_head.specs.Heads.{HeadReads}
 use Rattle.read_head.specs.HeadRows.{po_rows, ReadsFromDetail}
 use Rattle.read_names.specs.declared.Unknown.{Unknown}

@@ -1,4 +1,3 @@
-use Prim.Native.Nat.{◌-◌}
 use native.Mathlib.Omega.{arith}
 use Rattle.check_doses.proofs.Decided.{yes_of, no_of, applied_first, applied_rest, applied_ends}
 use Rattle.check_doses.specs.Doses.{none, more}

@@ -1,4 +1,3 @@
-use Prim.Native.Nat.{◌-◌}
 use native.Mathlib.Omega.{arith}
 use Rattle.check_table.proofs.Details.{refuted, before_detail, object_inside, object_few, detail_still, detail_free, detail_rest, no_object_lem, object_pause, object_posology, objects_last, objects_more, objects_bad, objects_over, in_sequence}
 use Rattle.check_table.proofs.check.+details.Goals as goal

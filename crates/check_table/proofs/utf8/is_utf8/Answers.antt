@@ -1,4 +1,4 @@
-use Prim.Native.Nat.{◌+◌, ◌-◌}
+use Prim.Native.Nat.{◌+◌}
 use Rattle.check_table.proofs.Tailed.{not_wrong, rest_start, rest_next, rest_skip, rest_wrong, rest_end}
 use Rattle.check_table.proofs.utf8.is_utf8.Goals as goal
 

@@ -3,7 +3,6 @@ use mathlib.Core.List.{[], ◌∷◌}
 use Prim.Native.Nat.{suc, ◌-◌}
 use native.Mathlib.Omega.{arith}
 use lib.ListN.{drop}
-use Rattle.json_grammar.specs.Tree.{list}
 use Rattle.document.specs.Bytes.{bytes}
 use Rattle.document.specs.Lookup.{find}
 use Rattle.document.specs.Schema.{an_object, a_list, some_objects, a_detail, a_sequence_object, rows_of, sequence_rows, posology_sequence_rows}

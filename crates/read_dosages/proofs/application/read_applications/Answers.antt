@@ -1,4 +1,3 @@
-use Prim.Native.Nat.{◌-◌}
 use mathlib.Core.Path.{refl, sym, ◌∙◌}
 use native.Mathlib.Omega.{arith}
 use Rattle.document.specs.Schema.{an_object}
@@ -21,7 +20,7 @@ shape_of-words-then-at_end c =
 
 pub returns-then-at_end : goal.returns-then-at_end
 returns-then-at_end c =
-     record { visits_each = λ l tells p es a. going_over _ _ _ _ (c.loop-terms.invariant.3 l tells p es a) (sym c.at_end.ensures ∙ c.if-at_end.true) (no_application c.args.timed, refl); kept = kept_done refl c.loop-terms.invariant.2 (record { some = omega (arith, c.loop-terms.invariant.1); few = c.loop-terms.invariant.0.few; fits = c.loop-terms.invariant.0.fits }) }
+    record { visits_each = λ l tells p es a. going_over _ _ _ _ (c.loop-terms.invariant.3 l tells p es a) (sym c.at_end.ensures ∙ c.if-at_end.true) (no_application c.args.timed, refl); kept = kept_done refl c.loop-terms.invariant.2 (record { some = omega (arith, c.loop-terms.invariant.1); few = c.loop-terms.invariant.0.few; fits = c.loop-terms.invariant.0.fits }) }
 
 pub shape_of-words-in_default : goal.shape_of-words-in_default
 shape_of-words-in_default c =
@@ -29,11 +28,14 @@ shape_of-words-in_default c =
 
 pub returns-in_default : goal.returns-in_default
 returns-in_default c =
-    let up = c.up_found.ensures _ _ c.in_default.is in record { visits_each = λ l tells p es a.
+    let up = c.up_found.ensures _ _ c.in_default.is in record {
+      visits_each = λ l tells p es a.
           let g = c.loop-terms.invariant.3 l tells p es a in
           rw up
           (going_refused _ _ _ _ g (sym c.at_end.ensures ∙ c.if-at_end.false) c.loop-terms.words
-          (λ t h. finds_refused _ (λ f k. (value_of t).read (an_object f) k) (c.object_value-f.ensures.object_at t h) c.in_default.is (an_application c.args.timed) g.state) refl); kept = kept_refused c.args.terms 0 c.args.first up c.loop-terms.invariant.2 }
+          (λ t h. finds_refused _ (λ f k. (value_of t).read (an_object f) k) (c.object_value-f.ensures.object_at t h) c.in_default.is (an_application c.args.timed) g.state) refl);
+      kept = kept_refused c.args.terms 0 c.args.first up c.loop-terms.invariant.2;
+    }
 
 pub read_application-r-requires : goal.read_application-r-requires
 read_application-r-requires c =
@@ -45,14 +47,17 @@ shape_of-words-in_default-r c =
 
 pub returns-in_default-r : goal.returns-in_default-r
 returns-in_default-r c =
-     record { visits_each = λ l tells p es a.
+    record {
+      visits_each = λ l tells p es a.
           let g = c.loop-terms.invariant.3 l tells p es a in
           rw c.in_default-r.is
           (going_refused _ _ _ _ g (sym c.at_end.ensures ∙ c.if-at_end.false) c.read_application-r.new.words
           (λ t h.
           let x = finds_child _ (λ f k. (value_of t).read (an_object f) k) (c.object_value-f.ensures.object_at t h) c.in-At.is in
           refuses_as (x.outcome (an_application c.args.timed) g.state) (visited_refused _ _ _ _ _ _ _ (c.read_application-r.ensures.visits_object g.state g.tells x.place x.inner x.stands) c.in_default-r.is).0)
-          c.read_application-r.ensures.kept.size); kept = kept_refused c.args.terms 0 c.args.first c.in_default-r.is (c.read_application-r.ensures.kept.size ∙ c.loop-terms.invariant.2) }
+          c.read_application-r.ensures.kept.size);
+      kept = kept_refused c.args.terms 0 c.args.first c.in_default-r.is (c.read_application-r.ensures.kept.size ∙ c.loop-terms.invariant.2);
+    }
 
 pub loop-terms-smaller : goal.loop-terms-smaller
 loop-terms-smaller c =

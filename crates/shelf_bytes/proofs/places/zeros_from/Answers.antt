@@ -1,5 +1,4 @@
 use mathlib.Core.Path.{refl, sym, ◌∙◌}
-use Prim.Native.Nat.{◌-◌}
 use native.Mathlib.Omega.{arith}
 use Rattle.shelf_bytes.proofs.HeadLaws.{zeros_not, zeros_step, zeros_end}
 use Rattle.shelf_bytes.proofs.places.zeros_from.Goals as goal
