@@ -1,5 +1,5 @@
 -- What was put is fetched, said of what the functions promise: into a buffer in which reading the text takes it, fetching answers as that reading.
-use mathlib.Core.Path.{◌≡◌, refl, ap, sym, subst, ◌∙◌}
+use mathlib.Core.Path.{◌≡◌, refl, ap, sym, ◌∙◌}
 use mathlib.Core.List.{List}
 use Prim.Native.Nat.{ℕ}
 use lib.ListN.{length}
@@ -16,7 +16,7 @@ use Rattle.document_meaning.proofs.Numbered.{reading_one}
 use Rattle.document_meaning.proofs.Spelled.{accepted_spells}
 use Rattle.demands.proofs.Demand2.{spells_one}
 use Rattle.shelf_list.specs.Shelf.{Entry}
-use Rattle.shelf_list.specs.Calls.{put, stored, on_area, fetched_from, Serves}
+use Rattle.shelf_list.specs.Calls.{put, stored, fetched_from, Serves}
 use Rattle.shelf_list.specs.Grounds as G
 use Rattle.shelf_list.proofs.Wish2.{stored_iff, put_fetches}
 use Rattle.shelf.specs.Answers.{Fetches}

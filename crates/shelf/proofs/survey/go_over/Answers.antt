@@ -1,5 +1,4 @@
 use mathlib.Core.Path.{sym, ◌∙◌}
-use Prim.Native.Nat.{◌-◌}
 use native.Mathlib.Omega.{arith}
 use Rattle.shelf_bytes.proofs.HeadLaws.{number_in}
 use Rattle.shelf.proofs.Turns.{too_long, going_starts, at_end_lem, at_zeros, at_zero, no_record, passes_inside, still_small, going_on}
