@@ -1,14 +1,14 @@
 -- Document 02, Wish 10: how long a plain text gets.
-use Rattle.std.specs.Prelude.{◌≡◌, List, cond, ◌&&◌, ℕ, ◌+◌, ◌*◌, eqb, leb, length}
+use Rattle.std.specs.Prelude.{◌≡◌, List, Result, cond, ◌&&◌, ℕ, ◌+◌, ◌*◌, eqb, leb, length}
 use Rattle.json_grammar.specs.Rows.{choose}
 use Rattle.document.specs.Visit.{records_at_most}
 use Rattle.document.specs.Valid.{is_use}
 use Rattle.document.specs.Untable.{posology_of}
 use Rattle.document.specs.Plain.{plain, plain_then}
-use Rattle.document.specs.Values.{Values, accepted, ends, blanks_only, number, measuring_values}
+use Rattle.document.specs.Values.{Values, accepted, ends, blanks_only, number, length_values}
 use Rattle.document.specs.Write.{greatest_room, readable}
 use Rattle.document.specs.declared.table.Table.{Table}
-use Rattle.document.specs.declared.table.Measuring.{Measuring}
+use Rattle.document.specs.declared.refusal.Refusal.{Refusal}
 
 -- "6 times its text bytes, 128 times its records, and 256, added up"
 abbrev pub bound : ℕ → ℕ → ℕ
@@ -32,8 +32,8 @@ length_of purpose t text =
     number 17 0
 
 -- The promise of telling the length.
-pub record Measures (purpose : ℕ) (t : Table) (text : List ℕ) (r : Measuring) : Type 0 where
-  pub answer : measuring_values r ≡ length_of purpose t text
+pub record Measures (purpose : ℕ) (t : Table) (text : List ℕ) (r : Result ℕ Refusal) : Type 0 where
+  pub answer : length_values r ≡ length_of purpose t text
 
 -- The length that an answer of writing tells: 19 tells it too.
 abbrev pub needed : Values → Values

@@ -12,6 +12,7 @@ pub mod Valid
 pub mod Table
 pub mod Spell
 pub mod Plain
+pub mod Refusals
 pub mod Values
 pub mod Answer
 pub mod Words

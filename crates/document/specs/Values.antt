@@ -1,14 +1,10 @@
 -- Document 01, "For any answer that is an enum, a definition gives this paper's number and values for each of its cases": the one place where
 -- the cases are numbered. The promises go through it.
-use Rattle.std.specs.Prelude.{ℕ}
-use Rattle.document.specs.declared.table.Answer.{Answer}
-use Rattle.document.specs.declared.table.Answer.TheVariants as A
-use Rattle.document.specs.declared.table.NextAnswer.{NextAnswer}
-use Rattle.document.specs.declared.table.NextAnswer.TheVariants as N
-use Rattle.document.specs.declared.table.Writing.{Writing}
-use Rattle.document.specs.declared.table.Writing.TheVariants as W
-use Rattle.document.specs.declared.table.Measuring.{Measuring}
-use Rattle.document.specs.declared.table.Measuring.TheVariants as M
+use Rattle.std.specs.Prelude.{ℕ, Result, Ok, Err}
+use Rattle.document.specs.Refusals.{number_of}
+use Rattle.document.specs.declared.refusal.Refusal.{Refusal}
+use Rattle.document.specs.declared.table.Next.{Next}
+use Rattle.document.specs.declared.table.Next.TheVariants as N
 
 -- Only a refusal has a number in "Answers by number".
 pub data Values : Type 0 where
@@ -17,19 +13,19 @@ pub data Values : Type 0 where
   blanks_only : ℕ → Values  -- only blanks remain: the run's length
   number : ℕ → ℕ → Values  -- refused, with the place
 
-abbrev pub answer_values : Answer → Values
-answer_values A.Taken = accepted
-answer_values (A.Refused n place) = number n place
+abbrev pub refusal_values : Refusal → Values
+refusal_values r = number (number_of r.0) r.1
 
-abbrev pub next_values : NextAnswer → Values
-next_values (N.Taken e) = ends e
-next_values (N.Blank n) = blanks_only n
-next_values (N.Refused n place) = number n place
+abbrev pub answer_values : Result (Unit {0}) Refusal → Values
+answer_values (Ok u) = accepted
+answer_values (Err r) = refusal_values r
 
-abbrev pub writing_values : Writing → Values
-writing_values (W.Written n) = ends n
-writing_values (W.Refused n place) = number n place
+abbrev pub next_values : Result Next Refusal → Values
+next_values (Ok (N.Taken e)) = ends e
+next_values (Ok (N.Blank n)) = blanks_only n
+next_values (Err r) = refusal_values r
 
-abbrev pub measuring_values : Measuring → Values
-measuring_values (M.Measured n) = ends n
-measuring_values (M.Refused n place) = number n place
+-- Of writing, and of telling the length: the length is the place.
+abbrev pub length_values : Result ℕ Refusal → Values
+length_values (Ok n) = ends n
+length_values (Err r) = refusal_values r

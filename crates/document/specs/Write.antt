@@ -1,5 +1,5 @@
 -- Document 01, "Answers by number", the writer: 17, 18, 19; and handing out the text of a record or head field.
-use Rattle.std.specs.Prelude.{◌≡◌, List, [], Bool, cond, ◌&&◌, ℕ, ◌+◌, leb, length, take, drop, get_or}
+use Rattle.std.specs.Prelude.{◌≡◌, List, [], Bool, Result, cond, ◌&&◌, ℕ, ◌+◌, leb, length, take, drop, get_or}
 use Rattle.json_grammar.specs.Rows.{choose}
 use Rattle.document.specs.Lookup.{same}
 use Rattle.document.specs.Posology.{Posology}
@@ -9,14 +9,14 @@ use Rattle.document.specs.Words.{table_words}
 use Rattle.document.specs.Untable.{posology_of}
 use Rattle.document.specs.Plain.{plain, plain_then}
 use Rattle.document.specs.Answer.{laid}
-use Rattle.document.specs.Values.{Values, ends, number, writing_values}
+use Rattle.document.specs.Values.{Values, ends, number, length_values}
 use Rattle.document.specs.declared.terms.Terms.{Terms}
 use Rattle.document.specs.declared.table.Table.{Table}
 use Rattle.document.specs.declared.table.Head.{Head}
 use Rattle.document.specs.declared.table.Text.{Text}
 use Rattle.document.specs.declared.table.Kind.{Kind}
 use Rattle.document.specs.declared.table.Kind.TheVariants as K
-use Rattle.document.specs.declared.table.Writing.{Writing}
+use Rattle.document.specs.declared.refusal.Refusal.{Refusal}
 use Rattle.document.specs.declared.table.HeadText.{HeadText}
 use Rattle.document.specs.declared.table.HeadText.TheVariants as H
 
@@ -62,8 +62,8 @@ buffer_after (writes bytes) buffer = laid bytes buffer
 buffer_after (refuses n place) buffer = buffer
 
 -- The promise of writing.
-pub record Writes (purpose : ℕ) (t : Table) (text before : List ℕ) (r : Writing) (after : List ℕ) : Type 0 where
-  pub answer : writing_values r ≡ write_values (write purpose t text (length before))
+pub record Writes (purpose : ℕ) (t : Table) (text before : List ℕ) (r : Result ℕ Refusal) (after : List ℕ) : Type 0 where
+  pub answer : length_values r ≡ write_values (write purpose t text (length before))
   pub left : after ≡ buffer_after (write purpose t text (length before)) before
 
 -- "the answer is that part of the lent text buffer itself"; where start and length don't lie in the buffer, the empty part at its start.

@@ -3,6 +3,7 @@
 
 pub mod dates;
 pub mod moments;
+pub mod refusal;
 pub mod table;
 pub mod terms;
 pub mod uses;

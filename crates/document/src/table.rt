@@ -1,4 +1,5 @@
-// The table (document 01, "The table").
+// The table (document 01, "The table"), and what reading answers.
+use crate::refusal::Refusal;
 
 pub const RECORDS: usize = 64;
 
@@ -140,45 +141,24 @@ pub struct Table {
     pub records: [Record; RECORDS],
 }
 
-// A posology was read or refused, by the number and place of document 01.
-#[derive(Clone, Copy)]
-pub enum Answer {
-    Taken,
-    Refused { number: u8, place: usize },
-}
-
+// A posology was read into the table, or is refused, with an empty table beside it.
 #[derive(Clone, Copy)]
 pub struct Reading {
-    pub answer: Answer,
+    pub answer: Result<(), Refusal>,
     pub table: Table,
 }
 
-// The first posology of a run: read, with the place behind its last byte; or only blanks remain; or refused.
+// What a run begins with: a posology, with the place behind its last byte; or only blanks remain.
 #[derive(Clone, Copy)]
-pub enum NextAnswer {
+pub enum Next {
     Taken { end: usize },
     Blank { length: usize },
-    Refused { number: u8, place: usize },
 }
 
 #[derive(Clone, Copy)]
 pub struct NextReading {
-    pub answer: NextAnswer,
+    pub answer: Result<Next, Refusal>,
     pub table: Table,
-}
-
-// A table was written, with the length of its plain text, or refused.
-#[derive(Clone, Copy)]
-pub enum Writing {
-    Written { length: usize },
-    Refused { number: u8, place: usize },
-}
-
-// The length of a table's plain text, or a refusal of the table.
-#[derive(Clone, Copy)]
-pub enum Measuring {
-    Measured { length: usize },
-    Refused { number: u8, place: usize },
 }
 
 // The head's fields that have text.
