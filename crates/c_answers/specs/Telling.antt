@@ -1,6 +1,6 @@
 -- Document 01, "The hospital side calls reading and writing from a C program": the number that a call returns, and the place that it tells.
 use Rattle.std.specs.Prelude.{ℕ}
-use Rattle.document.specs.Values.{Values, accepted, ends, blanks_only, number, next_values, writing_values}
+use Rattle.document.specs.Values.{Values, accepted, ends, blanks_only, number, next_values, length_values}
 use Rattle.document.specs.declared.table.NextAnswer.{NextAnswer}
 use Rattle.document.specs.declared.table.Writing.{Writing}
 use Rattle.c_answers.specs.declared.Told.{Told}
@@ -23,4 +23,4 @@ abbrev pub told_next : NextAnswer → Told
 told_next a = told (next_values a)
 
 abbrev pub told_writing : Writing → Told
-told_writing w = told (writing_values w)
+told_writing w = told (length_values w)

@@ -6,7 +6,7 @@ use lib.ListN.{length}
 use Rattle.document.specs.Table.{empty_table}
 use Rattle.document.specs.Answer.{Reads, ReadsNext, read, read_next, terms_of}
 use Rattle.document.specs.Write.{Writes, write}
-use Rattle.document_meaning.proofs.Numbered.{reading_one, next_reading_one, writing_one}
+use Rattle.document_meaning.proofs.Numbered.{reading_one, next_reading_one, length_one}
 use Rattle.demands.proofs.Leaves.{refusal, next_refusal, next_blank, write_refusal}
 use Rattle.demands.proofs.RefusalCases.{blank_by}
 use Rattle.document.specs.declared.table.Table.{Table}
@@ -28,7 +28,7 @@ determined_read_next a b = (next_reading_one _ _ (a.answer ∙ sym b.answer) (a.
 
 pub determined_write : {purpose : ℕ} {t : Table} {text before after after' : List ℕ} {r r' : Writing} → Writes purpose t text before r after → Writes purpose t text before r' after'
     → (r ≡ r') × (after ≡ after')
-determined_write a b = (writing_one _ _ (a.answer ∙ sym b.answer), a.left ∙ sym b.left)
+determined_write a b = (length_one _ _ (a.answer ∙ sym b.answer), a.left ∙ sym b.left)
 
 -- A refusal answers an empty table and leaves each lent byte as it was lent.
 pub refused_leaves_all : {purpose n place : ℕ} {text before after : List ℕ} {r : Reading} → Reads purpose text before r after → r.answer ≡ A.Refused n place

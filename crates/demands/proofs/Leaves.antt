@@ -4,7 +4,7 @@ use mathlib.Core.List.{List}
 use Prim.Native.Nat.{ℕ}
 use Rattle.json_grammar.proofs.Truth.{never}
 use Rattle.document.specs.Table.{empty_table}
-use Rattle.document.specs.Values.{answer_values, next_values, writing_values}
+use Rattle.document.specs.Values.{answer_values, next_values, length_values}
 use Rattle.document.specs.Answer.{Read, taken, refused, read_values, table_after, buffer_after, ReadNext, taken_to, blank_to, refused_at, read_next_values, next_table_after, next_buffer_after}
 use Rattle.document.specs.Write as W
 use Rattle.document.specs.declared.table.Answer.TheVariants as A
@@ -35,6 +35,6 @@ next_blank (blank_to m) e t f h = (cc (sym (ap next_values h) ∙ e), t, f)
 next_blank (refused_at m at) e t f h = never (cc (sym (ap next_values h) ∙ e))
 
 pub write_refusal : (x : W.Write) {r : Writing} {before after : List ℕ} {n place : ℕ}
-    → writing_values r ≡ W.write_values x → after ≡ W.buffer_after x before → r ≡ Refused n place → after ≡ before
-write_refusal (W.writes bytes) e f h = never (cc (sym (ap writing_values h) ∙ e))
+    → length_values r ≡ W.write_values x → after ≡ W.buffer_after x before → r ≡ Refused n place → after ≡ before
+write_refusal (W.writes bytes) e f h = never (cc (sym (ap length_values h) ∙ e))
 write_refusal (W.refuses m at) e f h = f

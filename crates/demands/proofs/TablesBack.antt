@@ -14,7 +14,7 @@ use Rattle.document.specs.Posology.{Posology}
 use Rattle.document.specs.Valid.{Valid, is_use, room_of, strings}
 use Rattle.document.specs.Table.{table_of}
 use Rattle.document.specs.Plain.{plain}
-use Rattle.document.specs.Values.{ends, answer_values, writing_values}
+use Rattle.document.specs.Values.{ends, answer_values, length_values}
 use Rattle.document.specs.Answer.{Read, taken, read, read_values, table_after, buffer_after, terms_of, Reads}
 use Rattle.document.specs.Write as W
 use Rattle.document.specs.Write.{Write, writes, refuses, write, fitting, readable, write_values, Writes}
@@ -93,7 +93,7 @@ pub promised_back : {purpose n : ℕ} {t : Table} {bytes before after lent left 
     → Writes purpose t bytes before w after → w ≡ Written n → Reads purpose (take n after) lent r left → t.text ≤ length lent
     → (r.answer ≡ A.Taken) × (r.table ≡ t) × (take t.text left ≡ take t.text bytes)
 promised_back {purpose} {n} {t} {bytes} {before} {after} {lent} {left} a e b f =
-    let x = text_first (write purpose t bytes (length before)) before (sym (ap writing_values e) ∙ a.answer) a.left in
+    let x = text_first (write purpose t bytes (length before)) before (sym (ap length_values e) ∙ a.answer) a.left in
     let k = read_back purpose t bytes x.text lent (length before) x.is f in
     let p = k.posology in
     let m : t.text ≡ length (strings p) = text_of p k.table in

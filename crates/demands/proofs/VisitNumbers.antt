@@ -1,4 +1,5 @@
 -- A visit refuses with a number from 4 to 16.
+use Rattle.std.specs.Prelude.{Ok, Err}
 use mathlib.Core.Path.{◌≡◌, refl, subst}
 use mathlib.Core.List.{List, [], ◌∷◌, ◌++◌}
 use mathlib.Core.Bool.{Bool, true, false, cond, not, ◌&&◌}
@@ -9,11 +10,8 @@ use lib.ListN.{length}
 use borrow.Author.Tests.{leb-true}
 use Rattle.json_grammar.specs.Tree.{Place, Tree, object, list, string, number, bool, null, Members, no_member, member, Elements, no_element, element}
 use Rattle.json_grammar.proofs.Truth.{and_left, and_right}
-use Rattle.document_numbers.specs.Number.{integer_in, decimal_from}
-use Rattle.document_numbers.specs.declared.Integer.{Integer}
-use Rattle.document_numbers.specs.declared.Integer.TheVariants as I
-use Rattle.document_numbers.specs.declared.Decimal.{Decimal}
-use Rattle.document_numbers.specs.declared.Decimal.TheVariants as D
+use Rattle.document_numbers.specs.Number.{Integer, Decimal, integer_in, decimal_from}
+use Rattle.document_numbers.specs.declared.NumberError.TheVariants as N
 use Rattle.document.specs.Bytes.{bytes}
 use Rattle.document.specs.Posology.{Posology}
 use Rattle.document.specs.Date.{date_of, time_of}
@@ -118,14 +116,14 @@ members_within f p es h l = unless_within (repeated [] es) 6 (by_type (eqb (type
 
 -- The other values.
 whole_within : (p : Place) (l : State) (i : Integer) → Within (whole p l i)
-whole_within p l (I.Whole n exact) = tt
-whole_within p l I.NotCarried = refl
-whole_within p l I.Outside = refl
+whole_within p l (Ok i) = tt
+whole_within p l (Err N.NotCarried) = refl
+whole_within p l (Err N.Outside) = refl
 
 millionths_within : (p : Place) (l : State) (d : Decimal) → Within (millionths p l d)
-millionths_within p l (D.Millionths n) = tt
-millionths_within p l D.NotCarried = refl
-millionths_within p l D.Outside = refl
+millionths_within p l (Ok n) = tt
+millionths_within p l (Err N.NotCarried) = refl
+millionths_within p l (Err N.Outside) = refl
 
 digits_within : (n : NumberShape) (p : Place) (raw : List ℕ) (l : State) → Within (digits n p raw l)
 digits_within (integer lo hi) p raw l = whole_within p l (integer_in lo hi raw)

@@ -8,7 +8,7 @@ use Rattle.document.specs.Posology.{Posology}
 use Rattle.document.specs.Valid.{Valid, Fits, is_use, strings}
 use Rattle.document.specs.Table.{table_of}
 use Rattle.document.specs.Plain.{plain}
-use Rattle.document.specs.Values.{ends, number, measuring_values}
+use Rattle.document.specs.Values.{ends, number, length_values}
 use Rattle.document.specs.Write.{greatest_room, readable, Write, writes, refuses, write, write_values, buffer_after, Writes}
 use Rattle.document.specs.Length.{bound, greatest_length, length_of, Measures}
 use Rattle.document.specs.declared.table.Table.{Table}
@@ -16,7 +16,7 @@ use Rattle.document.specs.declared.table.Writing.{Writing}
 use Rattle.document.specs.declared.table.Writing.TheVariants.{Written, Refused}
 use Rattle.document.specs.declared.table.Measuring.{Measuring}
 use Rattle.document.specs.declared.table.Measuring.TheVariants as M
-use Rattle.document_meaning.proofs.Numbered.{writing_one, measuring_one}
+use Rattle.document_meaning.proofs.Numbered.{length_one, length_one}
 use Rattle.document.proofs.Untabled.{untabled}
 use Rattle.document.proofs.Tables.{own_readable}
 use Rattle.document_meaning.proofs.TableLengths.{length_fits, length_exceeds, length_refused, length_bounded}
@@ -51,22 +51,22 @@ module _ (purpose : ℕ) (t : Table) (text : List ℕ) where
 -- The same of what the functions promise.
 pub determined_length : {purpose : ℕ} {t : Table} {text : List ℕ} {r r' : Measuring}
     → Measures purpose t text r → Measures purpose t text r' → r ≡ r'
-determined_length a b = measuring_one _ _ (a.answer ∙ sym b.answer)
+determined_length a b = length_one _ _ (a.answer ∙ sym b.answer)
 
 module _ {purpose : ℕ} {t : Table} {text before after : List ℕ} {r : Measuring} {w : Writing}
     (a : Measures purpose t text r) (b : Writes purpose t text before w after) where
   pub measured_then_written : {n : ℕ} → r ≡ M.Measured n → n ≤ length before → w ≡ Written n
   measured_then_written {n} e f =
-      let k = length_fits purpose t text n (sym a.answer ∙ ap measuring_values e) (length before) f in
-      writing_one w (Written n) (b.answer ∙ ap write_values k.1 ∙ ap ends k.2)
+      let k = length_fits purpose t text n (sym a.answer ∙ ap length_values e) (length before) f in
+      length_one w (Written n) (b.answer ∙ ap write_values k.1 ∙ ap ends k.2)
 
   refused : (m place : ℕ) → write purpose t text (length before) ≡ refuses m place → (w ≡ Refused m place) × (after ≡ before)
-  refused m place k = (writing_one w (Refused m place) (b.answer ∙ ap write_values k), b.left ∙ ap (λ (x : Write). buffer_after x before) k)
+  refused m place k = (length_one w (Refused m place) (b.answer ∙ ap write_values k), b.left ∙ ap (λ (x : Write). buffer_after x before) k)
 
   pub measured_then_short : {n : ℕ} → r ≡ M.Measured n → length before < n → (w ≡ Refused 19 n) × (after ≡ before)
   measured_then_short {n} e f =
-      refused 19 n (length_exceeds purpose t text n (sym a.answer ∙ ap measuring_values e) (length before) f)
+      refused 19 n (length_exceeds purpose t text n (sym a.answer ∙ ap length_values e) (length before) f)
 
   pub measured_refused : {m place : ℕ} → r ≡ M.Refused m place → (w ≡ Refused m place) × (after ≡ before)
   measured_refused {m} {place} e =
-      refused m place (length_refused purpose t text m place (length before) (sym a.answer ∙ ap measuring_values e)).0
+      refused m place (length_refused purpose t text m place (length before) (sym a.answer ∙ ap length_values e)).0

@@ -1,13 +1,10 @@
 -- Document 01, "Answers by number", the order line: objects in visiting order, and in each the order of its refusals.
-use Rattle.std.specs.Prelude.{List, [], ◌∷◌, ◌++◌, Bool, true, false, cond, not, ◌&&◌, ℕ, ◌-◌, eqb, leb, ltb, length}
+use Rattle.std.specs.Prelude.{List, [], ◌∷◌, ◌++◌, Bool, true, false, cond, not, ◌&&◌, ℕ, ◌-◌, eqb, leb, ltb, length, Ok, Err}
 use Rattle.std.proofs.Math.Option.{Option, none, some}
 use Rattle.json_grammar.specs.Rows.{choose}
 use Rattle.json_grammar.specs.Tree.{Place, Tree, object, list, string, number, bool, null, Members, no_member, member, Elements, no_element, element}
-use Rattle.document_numbers.specs.Number.{integer_in, decimal_from}
-use Rattle.document_numbers.specs.declared.Integer.{Integer}
-use Rattle.document_numbers.specs.declared.Integer.TheVariants as I
-use Rattle.document_numbers.specs.declared.Decimal.{Decimal}
-use Rattle.document_numbers.specs.declared.Decimal.TheVariants as D
+use Rattle.document_numbers.specs.Number.{Integer, Decimal, integer_in, decimal_from}
+use Rattle.document_numbers.specs.declared.NumberError.TheVariants as N
 use Rattle.document.specs.declared.terms.Terms.{Terms}
 use Rattle.document.specs.Bytes.{bytes}
 use Rattle.document.specs.Posology.{Posology}
@@ -119,14 +116,14 @@ members f p es l = unless (repeated [] es) 6 (by_type (eqb (types_of f) 0) f p e
 
 -- A number: 8, then 9.
 abbrev pub whole : Place → State → Integer → Outcome ℕ
-whole p l (I.Whole n exact) = done n l
-whole p l I.NotCarried = refuse 8 p
-whole p l I.Outside = refuse 9 p
+whole p l (Ok i) = done i.value l
+whole p l (Err N.NotCarried) = refuse 8 p
+whole p l (Err N.Outside) = refuse 9 p
 
 abbrev pub millionths : Place → State → Decimal → Outcome ℕ
-millionths p l (D.Millionths n) = done n l
-millionths p l D.NotCarried = refuse 8 p
-millionths p l D.Outside = refuse 9 p
+millionths p l (Ok n) = done n l
+millionths p l (Err N.NotCarried) = refuse 8 p
+millionths p l (Err N.Outside) = refuse 9 p
 
 abbrev pub digits : NumberShape → Place → List ℕ → State → Outcome ℕ
 digits (integer lo hi) p raw l = whole p l (integer_in lo hi raw)

@@ -5,8 +5,5 @@ ghost use Rattle.document.specs.Valid.{is_use};
 pub fn is_use(purpose: u64) -> bool
     ensures { result ≡ is_use purpose }
 {
-    if purpose == 1 {
-        return true;
-    }
-    purpose == 3
+    purpose == 1 || purpose == 3
 }

@@ -1,4 +1,5 @@
 -- What a tree means is accepted, if it is good.
+use Rattle.std.specs.Prelude.{Ok, Err}
 use mathlib.Core.Path.{◌≡◌, refl, ap, sym, subst, ◌∙◌}
 use mathlib.Core.List.{List, [], ◌∷◌, ◌++◌}
 use mathlib.Core.Bool.{Bool, true, false, not, ◌&&◌, false≢true}
@@ -9,10 +10,8 @@ use lib.Dec.{eqb, leb, ltb}
 use lib.ListN.{length, drop}
 use borrow.Author.Tests.{le-leb}
 use Rattle.json_grammar.specs.Tree.{Place, Tree, object, list, string, number, bool, null, Members, no_member, member, Elements, no_element, element}
-use Rattle.document_numbers.specs.Number.{integer_in, decimal_from, carried, negative, rounded, all_zero, behind_point, millionths as millionths_of}
-use Rattle.document_numbers.specs.declared.Integer.{Integer}
-use Rattle.document_numbers.specs.declared.Integer.TheVariants as I
-use Rattle.document_numbers.specs.declared.Decimal.{Decimal}
+use Rattle.document_numbers.specs.Number.{Integer, Decimal, integer_in, decimal_from, carried, negative, rounded, all_zero, behind_point, millionths as millionths_of}
+use Rattle.document_numbers.specs.declared.NumberError.TheVariants as N
 use Rattle.document.specs.Bytes.{bytes}
 use Rattle.document.specs.Posology.{Posology}
 use Rattle.document.specs.Lookup.{Entry, same, has, or_else, Found, nothing, one, twice, add, find, repeated, unknown}
@@ -185,7 +184,7 @@ members_complete : (f : Family) (p : Place) (es : List (Entry Value)) (ds : List
 members_complete f p es ds h k l l'' a e m g = by (six es ds h m.0 _) (by_type_complete (untyped f) f refl p es ds h k l l'' a e m.1 g)
 
 -- The other values. An integer leaves what was left, whether or not it had to be rounded.
-whole_taken : (p : Place) (k : State) (n m : ℕ) (exact : Bool) (l : Left) → n ≡ m → k.left ≡ l → Taken (whole p k (I.Whole n exact)) m l
+whole_taken : (p : Place) (k : State) (n m : ℕ) (exact : Bool) (l : Left) → n ≡ m → k.left ≡ l → Taken (whole p k (Ok (record { value = n; exact = exact }))) m l
 whole_taken p k n m true l e f = done_both n m _ l e f
 whole_taken p k n m false l e f = done_both n m _ l e f
 

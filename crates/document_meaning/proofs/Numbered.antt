@@ -1,53 +1,114 @@
--- The numbering is one to one: an answer is known by its values.
-use mathlib.Core.Path.{◌≡◌, refl, ap, ◌∙◌}
+-- The numbering is one to one: a refusal is known by its number and place, and an answer by its values.
+use Rattle.std.specs.Prelude.{ℕ, Result, Ok, Err}
+use mathlib.Core.Path.{◌≡◌, refl, sym, ap, ◌∙◌}
 use Rattle.json_grammar.proofs.Truth.{never}
-use Rattle.document.specs.Values.{answer_values, next_values, writing_values, measuring_values}
+use Rattle.document.specs.Refusals.{number_of}
+use Rattle.document.specs.Values.{answer_values, next_values, length_values, refusal_values}
+use Rattle.document.specs.declared.refusal.Reason.{Reason}
+use Rattle.document.specs.declared.refusal.Reason.TheVariants as R
+use Rattle.document.specs.declared.refusal.Refusal.{Refusal}
 use Rattle.document.specs.declared.table.Reading.{Reading}
+use Rattle.document.specs.declared.table.Next.{Next}
+use Rattle.document.specs.declared.table.Next.TheVariants as N
 use Rattle.document.specs.declared.table.NextReading.{NextReading}
-use Rattle.document.specs.declared.table.Answer.{Answer}
-use Rattle.document.specs.declared.table.Answer.TheVariants as A
-use Rattle.document.specs.declared.table.NextAnswer.{NextAnswer}
-use Rattle.document.specs.declared.table.NextAnswer.TheVariants as N
-use Rattle.document.specs.declared.table.Writing.{Writing}
-use Rattle.document.specs.declared.table.Writing.TheVariants as W
-use Rattle.document.specs.declared.table.Measuring.{Measuring}
-use Rattle.document.specs.declared.table.Measuring.TheVariants as M
 use Rattle.document.specs.declared.table.Table.{Table}
 
-pub answer_one : (a b : Answer) → answer_values a ≡ answer_values b → a ≡ b
-answer_one A.Taken A.Taken e = refl
-answer_one A.Taken (A.Refused n p) e = never (cc e)
-answer_one (A.Refused m q) A.Taken e = never (cc e)
-answer_one (A.Refused m q) (A.Refused n p) e = cc e
+-- The way back from a number; what is none gives the last.
+reason_of : ℕ → Reason
+reason_of 0 = R.Unasked
+reason_of 1 = R.TooLong
+reason_of 2 = R.NotOneObject
+reason_of 3 = R.TooDeep
+reason_of 4 = R.WrongKind
+reason_of 5 = R.UnknownName
+reason_of 6 = R.NameTwice
+reason_of 7 = R.Missing
+reason_of 8 = R.NotCarried
+reason_of 9 = R.OutOfRange
+reason_of 10 = R.TypeNotAllowed
+reason_of 11 = R.WrongCount
+reason_of 12 = R.WrongOrder
+reason_of 13 = R.NotADate
+reason_of 14 = R.SequenceTooDeep
+reason_of 15 = R.TooManyRecords
+reason_of 16 = R.NoTextRoom
+reason_of 17 = R.WrongUse
+reason_of 18 = R.NotReadable
+reason_of 19 = R.BufferTooShort
+reason_of 20 = R.NoShelf
+reason_of 21 = R.NoNumber
+reason_of 22 = R.NumberTaken
+reason_of 23 = R.NumberMissing
+reason_of n = R.NoShelfRoom
 
-pub next_one : (a b : NextAnswer) → next_values a ≡ next_values b → a ≡ b
-next_one (N.Taken m) (N.Taken n) e = cc e
-next_one (N.Taken m) (N.Blank n) e = never (cc e)
-next_one (N.Taken m) (N.Refused n p) e = never (cc e)
-next_one (N.Blank m) (N.Taken n) e = never (cc e)
-next_one (N.Blank m) (N.Blank n) e = cc e
-next_one (N.Blank m) (N.Refused n p) e = never (cc e)
-next_one (N.Refused m q) (N.Taken n) e = never (cc e)
-next_one (N.Refused m q) (N.Blank n) e = never (cc e)
-next_one (N.Refused m q) (N.Refused n p) e = cc e
+there_and_back : (a : Reason) → reason_of (number_of a) ≡ a
+unfolding reason_of
+there_and_back R.Unasked = refl
+there_and_back R.TooLong = refl
+there_and_back R.NotOneObject = refl
+there_and_back R.TooDeep = refl
+there_and_back R.WrongKind = refl
+there_and_back R.UnknownName = refl
+there_and_back R.NameTwice = refl
+there_and_back R.Missing = refl
+there_and_back R.NotCarried = refl
+there_and_back R.OutOfRange = refl
+there_and_back R.TypeNotAllowed = refl
+there_and_back R.WrongCount = refl
+there_and_back R.WrongOrder = refl
+there_and_back R.NotADate = refl
+there_and_back R.SequenceTooDeep = refl
+there_and_back R.TooManyRecords = refl
+there_and_back R.NoTextRoom = refl
+there_and_back R.WrongUse = refl
+there_and_back R.NotReadable = refl
+there_and_back R.BufferTooShort = refl
+there_and_back R.NoShelf = refl
+there_and_back R.NoNumber = refl
+there_and_back R.NumberTaken = refl
+there_and_back R.NumberMissing = refl
+there_and_back R.NoShelfRoom = refl
 
-pub writing_one : (a b : Writing) → writing_values a ≡ writing_values b → a ≡ b
-writing_one (W.Written m) (W.Written n) e = cc e
-writing_one (W.Written m) (W.Refused n p) e = never (cc e)
-writing_one (W.Refused m q) (W.Written n) e = never (cc e)
-writing_one (W.Refused m q) (W.Refused n p) e = cc e
+pub reason_one : (a b : Reason) → number_of a ≡ number_of b → a ≡ b
+reason_one a b e = sym (there_and_back a) ∙ ap reason_of e ∙ there_and_back b
 
-pub measuring_one : (a b : Measuring) → measuring_values a ≡ measuring_values b → a ≡ b
-measuring_one (M.Measured m) (M.Measured n) e = cc e
-measuring_one (M.Measured m) (M.Refused n p) e = never (cc e)
-measuring_one (M.Refused m q) (M.Measured n) e = never (cc e)
-measuring_one (M.Refused m q) (M.Refused n p) e = cc e
+refusal_same : (a b : Reason) (p q : ℕ) → a ≡ b → p ≡ q → (let r : Refusal = record { 0 = a; 1 = p } in r) ≡ (let r : Refusal = record { 0 = b; 1 = q } in r)
+refusal_same a b p q e f = cc
+
+pub refusal_one : (a b : Refusal) → refusal_values a ≡ refusal_values b → a ≡ b
+refusal_one a b e =
+    let n : number_of a.0 ≡ number_of b.0 = cc e in
+    let p : a.1 ≡ b.1 = cc e in
+    refusal_same a.0 b.0 a.1 b.1 (reason_one a.0 b.0 n) p
+
+pub answer_one : (a b : Result (Unit {0}) Refusal) → answer_values a ≡ answer_values b → a ≡ b
+answer_one (Ok x) (Ok y) e = refl
+answer_one (Ok x) (Err r) e = never (cc e)
+answer_one (Err r) (Ok x) e = never (cc e)
+answer_one (Err r) (Err s) e = ap (λ (t : Refusal). Err t) (refusal_one r s e)
+
+pub next_one : (a b : Result Next Refusal) → next_values a ≡ next_values b → a ≡ b
+next_one (Ok (N.Taken m)) (Ok (N.Taken n)) e = cc e
+next_one (Ok (N.Taken m)) (Ok (N.Blank n)) e = never (cc e)
+next_one (Ok (N.Taken m)) (Err r) e = never (cc e)
+next_one (Ok (N.Blank m)) (Ok (N.Taken n)) e = never (cc e)
+next_one (Ok (N.Blank m)) (Ok (N.Blank n)) e = cc e
+next_one (Ok (N.Blank m)) (Err r) e = never (cc e)
+next_one (Err r) (Ok (N.Taken n)) e = never (cc e)
+next_one (Err r) (Ok (N.Blank n)) e = never (cc e)
+next_one (Err r) (Err s) e = ap (λ (t : Refusal). Err t) (refusal_one r s e)
+
+pub length_one : (a b : Result ℕ Refusal) → length_values a ≡ length_values b → a ≡ b
+length_one (Ok m) (Ok n) e = cc e
+length_one (Ok m) (Err r) e = never (cc e)
+length_one (Err r) (Ok n) e = never (cc e)
+length_one (Err r) (Err s) e = ap (λ (t : Refusal). Err t) (refusal_one r s e)
 
 -- A reading is known by its answer's values and its table.
 pub reading_one : (r s : Reading) → answer_values r.answer ≡ answer_values s.answer → r.table ≡ s.table → r ≡ s
 reading_one r s e f =
-    ap (λ (a : Answer). record { answer = a; table = r.table }) (answer_one r.answer s.answer e) ∙ ap (λ (t : Table). record { answer = s.answer; table = t }) f
+    ap (λ (a : Result (Unit {0}) Refusal). record { answer = a; table = r.table }) (answer_one r.answer s.answer e) ∙ ap (λ (t : Table). record { answer = s.answer; table = t }) f
 
 pub next_reading_one : (r s : NextReading) → next_values r.answer ≡ next_values s.answer → r.table ≡ s.table → r ≡ s
 next_reading_one r s e f =
-    ap (λ (a : NextAnswer). record { answer = a; table = r.table }) (next_one r.answer s.answer e) ∙ ap (λ (t : Table). record { answer = s.answer; table = t }) f
+    ap (λ (a : Result Next Refusal). record { answer = a; table = r.table }) (next_one r.answer s.answer e) ∙ ap (λ (t : Table). record { answer = s.answer; table = t }) f

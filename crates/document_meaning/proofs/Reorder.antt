@@ -1,4 +1,5 @@
 -- Members in another order and values at other places are read alike: both accepted as the same, or both refused.
+use Rattle.std.specs.Prelude.{Ok, Err}
 use mathlib.Core.Path.{◌≡◌, refl, ap, subst, ◌∙◌}
 use mathlib.Core.List.{List, [], ◌∷◌, ◌++◌}
 use mathlib.Core.Bool.{Bool, true, false, cond, ◌||◌, ◌&&◌, not, true≢false, false≢true}
@@ -7,11 +8,8 @@ use Prim.Native.Nat.{ℕ}
 use lib.Dec.{eqb, leb, ltb}
 use lib.ListN.{length}
 use Rattle.json_grammar.specs.Tree.{Place, Tree, object, list, string, number, bool, null, Members, no_member, member, Elements, no_element, element}
-use Rattle.document_numbers.specs.Number.{integer_in, decimal_from}
-use Rattle.document_numbers.specs.declared.Integer.{Integer}
-use Rattle.document_numbers.specs.declared.Integer.TheVariants as I
-use Rattle.document_numbers.specs.declared.Decimal.{Decimal}
-use Rattle.document_numbers.specs.declared.Decimal.TheVariants as D
+use Rattle.document_numbers.specs.Number.{Integer, Decimal, integer_in, decimal_from}
+use Rattle.document_numbers.specs.declared.NumberError.TheVariants as N
 use Rattle.document.specs.Bytes.{bytes}
 use Rattle.document.specs.Posology.{Posology}
 use Rattle.document.specs.Date.{date_of, time_of}
@@ -209,14 +207,14 @@ members_alike f p q {es} {ds} h l = unless_alike (repeated [] es) (repeated [] d
 
 -- The other values.
 whole_alike : (p q : Place) {k j : State} → AlikeState k j → (i : Integer) → Alike (whole p k i) (whole q j i)
-whole_alike p q l (I.Whole n exact) = both_done l
-whole_alike p q l I.NotCarried = both_refuse
-whole_alike p q l I.Outside = both_refuse
+whole_alike p q l (Ok i) = both_done l
+whole_alike p q l (Err N.NotCarried) = both_refuse
+whole_alike p q l (Err N.Outside) = both_refuse
 
 millionths_alike : (p q : Place) {k j : State} → AlikeState k j → (d : Decimal) → Alike (millionths p k d) (millionths q j d)
-millionths_alike p q l (D.Millionths n) = both_done l
-millionths_alike p q l D.NotCarried = both_refuse
-millionths_alike p q l D.Outside = both_refuse
+millionths_alike p q l (Ok n) = both_done l
+millionths_alike p q l (Err N.NotCarried) = both_refuse
+millionths_alike p q l (Err N.Outside) = both_refuse
 
 digits_alike : (n : NumberShape) (p q : Place) (raw : List ℕ) {k j : State} → AlikeState k j → Alike (digits n p raw k) (digits n q raw j)
 digits_alike (integer lo hi) p q raw l = whole_alike p q l (integer_in lo hi raw)

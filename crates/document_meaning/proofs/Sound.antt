@@ -1,4 +1,5 @@
 -- What is accepted is valid, takes what its records and strings take, and is what the tree means.
+use Rattle.std.specs.Prelude.{Ok, Err}
 use mathlib.Core.Path.{◌≡◌, refl, ap, sym, subst, ◌∙◌}
 use mathlib.Core.List.{List, [], ◌∷◌, ◌++◌}
 use mathlib.Core.Bool.{Bool, true, false, not, ◌&&◌, cond}
@@ -11,8 +12,7 @@ use borrow.Author.Tests.{leb-true, ltb-true, not-true}
 use Rattle.json_grammar.specs.Rows.{choose}
 use Rattle.json_grammar.specs.Tree.{Place, Tree, object, list, string, number, bool, null, Members, no_member, member, Elements, no_element, element}
 use Rattle.document_numbers.specs.Number.{integer_in, decimal_from, carried, negative, rounded, all_zero, behind_point, millionths as millionths_of}
-use Rattle.document_numbers.specs.declared.Integer.TheVariants as I
-use Rattle.document_numbers.specs.declared.Decimal.TheVariants as D
+use Rattle.document_numbers.specs.declared.NumberError.TheVariants as N
 use Rattle.document.specs.Bytes.{bytes}
 use Rattle.document.specs.Utf8.{is_utf8}
 use Rattle.document.specs.Date.{is_date, is_second, date_of, time_of}
@@ -203,7 +203,7 @@ unfolding integer_in
 whole_sound p l lo hi raw = go (carried raw) (negative raw) (leb lo (rounded raw) && leb (rounded raw) hi) (all_zero (behind_point raw)) refl refl refl
   where
     go : (c n b exact : Bool) → carried raw ≡ c → negative raw ≡ n → (leb lo (rounded raw) && leb (rounded raw) hi) ≡ b
-        → All (λ m l'. Good (a_number (integer lo hi)) m l.left l'.left × DigitsMean (integer lo hi) raw m) (whole p l (choose c (λ _. cond n I.Outside (cond b (I.Whole (rounded raw) exact) I.Outside)) λ _. I.NotCarried))
+        → All (λ m l'. Good (a_number (integer lo hi)) m l.left l'.left × DigitsMean (integer lo hi) raw m) (whole p l (choose c (λ _. cond n (Err N.Outside) (cond b (Ok (record { value = (rounded raw); exact = exact })) (Err N.Outside))) λ _. Err N.NotCarried))
     go false n b exact e f g = tt
     go true true b exact e f g = tt
     go true false false exact e f g = tt
@@ -215,7 +215,7 @@ unfolding decimal_from
 millionths_sound p l lo raw = go (carried raw && all_zero (drop 6 (behind_point raw))) (negative raw) (leb lo (millionths_of raw) && leb (millionths_of raw) greatest_decimal) refl refl refl
   where
     go : (c n b : Bool) → (carried raw && all_zero (drop 6 (behind_point raw))) ≡ c → negative raw ≡ n → (leb lo (millionths_of raw) && leb (millionths_of raw) greatest_decimal) ≡ b
-        → All (λ m l'. Good (a_number (decimal lo)) m l.left l'.left × DigitsMean (decimal lo) raw m) (millionths p l (choose c (λ _. cond n D.Outside (cond b (D.Millionths (millionths_of raw)) D.Outside)) λ _. D.NotCarried))
+        → All (λ m l'. Good (a_number (decimal lo)) m l.left l'.left × DigitsMean (decimal lo) raw m) (millionths p l (choose c (λ _. cond n (Err N.Outside) (cond b (Ok (millionths_of raw)) (Err N.Outside))) λ _. Err N.NotCarried))
     go false n b e f g = tt
     go true true b e f g = tt
     go true false false e f g = tt

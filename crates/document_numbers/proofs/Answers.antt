@@ -8,11 +8,10 @@ use lib.Seq.{length-take-le}
 use lib.Dec.{leb}
 use native.Mathlib.Omega.{arith}
 use borrow.Author.Tests.{leb-true, lt-leb, not-true, not-false}
-use Rattle.document_numbers.specs.declared.Integer.{Integer}
-use Rattle.document_numbers.specs.declared.Integer.TheVariants.{NotCarried, Outside}
-use Rattle.document_numbers.specs.declared.Decimal.{Decimal}
-use Rattle.document_numbers.specs.declared.Decimal.TheVariants.{NotCarried as NotCarriedD, Outside as OutsideD}
-use Rattle.document_numbers.specs.Number.{negative, exponent, carried, counted, padded, up, rounded, all_zero, behind_point, among, integer_in, millionths, amount, decimal_from}
+use Rattle.std.specs.Prelude.{Ok, Err}
+use Rattle.document_numbers.specs.declared.NumberError.{NumberError}
+use Rattle.document_numbers.specs.declared.NumberError.TheVariants.{NotCarried, Outside}
+use Rattle.document_numbers.specs.Number.{Integer, Decimal, negative, exponent, carried, counted, padded, up, rounded, all_zero, behind_point, among, integer_in, millionths, amount, decimal_from}
 use Rattle.document_numbers.specs.Point.{Parts}
 use Rattle.json_grammar.proofs.Truth.{and_left}
 use Rattle.document_numbers.proofs.Digits.{padded_least}
@@ -34,12 +33,12 @@ module _ (raw : List ℕ) (point : ℕ) (p : Parts raw point) where
 -- From what the code found of a number, in the order in which it looks, to its answer.
 module _ (raw : List ℕ) (is_carried : Bool) (k : is_carried ≡ carried raw) where
   module _ (least most : ℕ) where
-    pub integer_not_carried : not is_carried ≡ true → NotCarried ≡ integer_in least most raw
+    pub integer_not_carried : not is_carried ≡ true → Err NotCarried ≡ integer_in least most raw
     unfolding integer_in
     integer_not_carried e = rw (← k, not-true is_carried e)
 
     module _ (e : not is_carried ≡ false) (is_negative : Bool) (m : is_negative ≡ negative raw) where
-      pub integer_negative : is_negative ≡ true → Outside ≡ integer_in least most raw
+      pub integer_negative : is_negative ≡ true → Err Outside ≡ integer_in least most raw
       unfolding integer_in
       integer_negative n = rw (← k, not-false is_carried e, ← m, n)
 
@@ -49,17 +48,17 @@ module _ (raw : List ℕ) (is_carried : Bool) (k : is_carried ≡ carried raw) w
       integer_carried point whole more fraction exact r n p w f u z a = a ∙ rw (← k, not-false is_carried e, ← m, n, w, u, z, f, p.before)
 
   module _ (least : ℕ) where
-    pub decimal_not_carried : not is_carried ≡ true → NotCarriedD ≡ decimal_from least raw
+    pub decimal_not_carried : not is_carried ≡ true → Err NotCarried ≡ decimal_from least raw
     unfolding decimal_from
     decimal_not_carried e = rw (← k, not-true is_carried e)
 
     module _ (e : not is_carried ≡ false) (fraction : List ℕ) (f : fraction ≡ behind_point raw) (in_millionths : Bool) (z : in_millionths ≡ all_zero (drop 6 fraction)) where
-      pub decimal_too_fine : not in_millionths ≡ true → NotCarriedD ≡ decimal_from least raw
+      pub decimal_too_fine : not in_millionths ≡ true → Err NotCarried ≡ decimal_from least raw
       unfolding decimal_from
       decimal_too_fine t = rw (← k, not-false is_carried e, ← f, ← z, not-true in_millionths t)
 
       module _ (t : not in_millionths ≡ false) (is_negative : Bool) (m : is_negative ≡ negative raw) where
-        pub decimal_negative : is_negative ≡ true → OutsideD ≡ decimal_from least raw
+        pub decimal_negative : is_negative ≡ true → Err Outside ≡ decimal_from least raw
         unfolding decimal_from
         decimal_negative n = rw (← k, not-false is_carried e, ← f, ← z, not-false in_millionths t, ← m, n)
 
@@ -68,11 +67,11 @@ module _ (raw : List ℕ) (is_carried : Bool) (k : is_carried ≡ carried raw) w
           unfolding decimal_from millionths
           decimal_carried v r q a = a ∙ rw (← k, not-false is_carried e, ← f, ← z, not-false in_millionths t, ← m, n, q, w, p.before)
 
-          pub decimal_over : 999999999999 < whole → OutsideD ≡ decimal_from least raw
+          pub decimal_over : 999999999999 < whole → Err Outside ≡ decimal_from least raw
           decimal_over h =
               let v = padded 6 whole fraction in
               let g : 999999999999 < v = omega (arith, padded_least 6 whole fraction) in
-              decimal_carried v OutsideD refl (rw (lt-leb v 999999999999 g, and-false))
+              decimal_carried v (Err Outside) refl (rw (lt-leb v 999999999999 g, and-false))
 
 pub ruleset parts = (whole_part, whole_length)
 

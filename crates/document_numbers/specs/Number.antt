@@ -1,12 +1,18 @@
 -- Document 01, "Numbers", and rows 8 and 9: a number by the bytes that it is written with.
-use Rattle.std.specs.Prelude.{ℕ, zero, suc, ◌+◌, ◌*◌, ◌-◌, List, [], ◌∷◌, Bool, ◌&&◌, cond, drop, eqb, leb}
+use Rattle.std.specs.Prelude.{ℕ, zero, suc, ◌+◌, ◌*◌, ◌-◌, List, [], ◌∷◌, Bool, ◌&&◌, cond, drop, eqb, leb, Result, Ok, Err}
 pub use Rattle.document_figures.specs.Figures.{negative, up}
 unfoldable pub use Rattle.document_figures.specs.Figures.{exponent, all_zero, carried}
 use Rattle.json_grammar.specs.Rows.{else, below, look, choose}
-use Rattle.document_numbers.specs.declared.Integer.{Integer}
-use Rattle.document_numbers.specs.declared.Integer.TheVariants.{Whole, NotCarried, Outside}
-use Rattle.document_numbers.specs.declared.Decimal.{Decimal}
-use Rattle.document_numbers.specs.declared.Decimal.TheVariants.{Millionths, NotCarried as NotCarriedD, Outside as OutsideD}
+use Rattle.document_numbers.specs.declared.Whole.{Whole}
+use Rattle.document_numbers.specs.declared.NumberError.{NumberError}
+use Rattle.document_numbers.specs.declared.NumberError.TheVariants.{NotCarried, Outside}
+
+abbrev pub Integer : Type 0
+Integer = Result Whole NumberError
+
+-- Millionths.
+abbrev pub Decimal : Type 0
+Decimal = Result ℕ NumberError
 
 -- What stands before the point, and behind it.
 unfoldable pub before_point : List ℕ → List ℕ
@@ -33,13 +39,13 @@ unfolding counted before_point behind_point
 rounded raw = counted 0 (before_point raw) + up (behind_point raw)
 
 abbrev pub among : ℕ → ℕ → ℕ → Bool → Integer
-among least most n exact = cond (leb least n && leb n most) (Whole n exact) Outside
+among least most n exact = cond (leb least n && leb n most) (Ok (record { value = n; exact = exact })) (Err Outside)
 
 -- An integer from `least` to `most`: with it, whether the fraction was zero. Range is judged behind the rounding.
 unfoldable pub integer_in : ℕ → ℕ → List ℕ → Integer
 unfolding carried rounded all_zero behind_point
 integer_in least most raw =
-    choose (carried raw) (λ _. cond (negative raw) Outside (among least most (rounded raw) (all_zero (behind_point raw)))) λ _. NotCarried
+    choose (carried raw) (λ _. cond (negative raw) (Err Outside) (among least most (rounded raw) (all_zero (behind_point raw)))) λ _. Err NotCarried
 
 -- So many digits more, with zeros where there are fewer.
 unfoldable pub padded : ℕ → ℕ → List ℕ → ℕ
@@ -54,10 +60,10 @@ unfolding counted padded before_point behind_point
 millionths raw = padded 6 (counted 0 (before_point raw)) (behind_point raw)
 
 abbrev pub amount : ℕ → ℕ → Decimal
-amount least n = cond (leb least n && leb n 999999999999) (Millionths n) OutsideD
+amount least n = cond (leb least n && leb n 999999999999) (Ok n) (Err Outside)
 
 -- A decimal from `least` millionths to 999,999.999999.
 unfoldable pub decimal_from : ℕ → List ℕ → Decimal
 unfolding carried millionths all_zero behind_point
 decimal_from least raw =
-    choose (carried raw && all_zero (drop 6 (behind_point raw))) (λ _. cond (negative raw) OutsideD (amount least (millionths raw))) λ _. NotCarriedD
+    choose (carried raw && all_zero (drop 6 (behind_point raw))) (λ _. cond (negative raw) (Err Outside) (amount least (millionths raw))) λ _. Err NotCarried

@@ -8,18 +8,16 @@ ghost use Rattle.document_numbers.specs.Point.{Parts};
 
 use json_scan::byte;
 
-// An integer and whether its fraction was zero; or refusal 8; or refusal 9.
-#[derive(Clone, Copy)]
-pub enum Integer {
-    Whole(u64, bool),
-    NotCarried,
-    Outside,
+// An integer, and whether its fraction was zero.
+#[derive(Clone, Copy, Debug, PartialEq, Eq)]
+pub struct Whole {
+    pub value: u64,
+    pub exact: bool,
 }
 
-// Millionths; or refusal 8; or refusal 9.
-#[derive(Clone, Copy)]
-pub enum Decimal {
-    Millionths(u64),
+// Refusal 8, or refusal 9.
+#[derive(Clone, Copy, Debug, PartialEq, Eq)]
+pub enum NumberError {
     NotCarried,
     Outside,
 }
@@ -96,27 +94,27 @@ fn fraction_at(raw: &[u8], point: usize) -> &[u8]
     &raw[point..]
 }
 
-fn integer_among(least: u64, most: u64, n: u64, exact: bool) -> Integer
+fn integer_among(least: u64, most: u64, n: u64, exact: bool) -> Result<Whole, NumberError>
     ensures { result ≡ among least most n exact }
 {
     if n < least {
-        return Integer::Outside;
+        return Err(NumberError::Outside);
     }
     if most < n {
-        return Integer::Outside;
+        return Err(NumberError::Outside);
     }
-    Integer::Whole(n, exact)
+    Ok(Whole { value: n, exact })
 }
 
 // An integer from `least` to `most`, by the bytes that it is written with.
-pub fn integer_of(raw: &[u8], least: u64, most: u64) -> Integer
+pub fn integer_of(raw: &[u8], least: u64, most: u64) -> Result<Whole, NumberError>
     ensures { result ≡ integer_in least most raw.now }
 {
     if !document_figures::is_carried(raw) {
-        return Integer::NotCarried;
+        return Err(NumberError::NotCarried);
     }
     if document_figures::is_negative(raw) {
-        return Integer::Outside;
+        return Err(NumberError::Outside);
     }
     let point = point_at(raw);
     let whole = counted(&raw[..point]);
@@ -129,42 +127,42 @@ pub fn integer_of(raw: &[u8], least: u64, most: u64) -> Integer
     )
 }
 
-fn amount_from(least: u64, n: u64) -> Decimal
+fn amount_from(least: u64, n: u64) -> Result<u64, NumberError>
     ensures { result ≡ amount least n }
 {
     if n < least {
-        return Decimal::Outside;
+        return Err(NumberError::Outside);
     }
     if MOST < n {
-        return Decimal::Outside;
+        return Err(NumberError::Outside);
     }
-    Decimal::Millionths(n)
+    Ok(n)
 }
 
 // A decimal from `least` millionths on, by the bytes that it is written with.
-pub fn decimal_of(raw: &[u8], least: u64) -> Decimal
+pub fn decimal_of(raw: &[u8], least: u64) -> Result<u64, NumberError>
     ensures { result ≡ decimal_from least raw.now }
 {
     if !document_figures::is_carried(raw) {
-        return Decimal::NotCarried;
+        return Err(NumberError::NotCarried);
     }
     let point = point_at(raw);
     let fraction = fraction_at(raw, point);
     if !document_figures::has_millionths(fraction) {
-        return Decimal::NotCarried;
+        return Err(NumberError::NotCarried);
     }
     if document_figures::is_negative(raw) {
-        return Decimal::Outside;
+        return Err(NumberError::Outside);
     }
     let whole = counted(&raw[..point]);
     if MOST < whole {
-        return Decimal::Outside;
+        return Err(NumberError::Outside);
     }
     amount_from(least, padded(fraction, whole))
 }
 
 // The integer at a place of a walked text.
-pub fn integer_at(text: &[u8], at: usize, least: u64, most: u64) -> Integer
+pub fn integer_at(text: &[u8], at: usize, least: u64, most: u64) -> Result<Whole, NumberError>
     ensures { result ≡ integer_in least most (written (drop at text.now)) }
 {
     if text.len() <= at {
@@ -175,7 +173,7 @@ pub fn integer_at(text: &[u8], at: usize, least: u64, most: u64) -> Integer
 }
 
 // The decimal at a place of a walked text.
-pub fn decimal_at(text: &[u8], at: usize, least: u64) -> Decimal
+pub fn decimal_at(text: &[u8], at: usize, least: u64) -> Result<u64, NumberError>
     ensures { result ≡ decimal_from least (written (drop at text.now)) }
 {
     if text.len() <= at {

@@ -7,7 +7,7 @@ use lib.ListN.{length, get_or}
 use borrow.Author.Tests.{eq-eqb, ne_eqb}
 use Rattle.json_grammar.proofs.Truth.{never_true}
 use Rattle.document.specs.Valid.{is_use}
-use Rattle.document.specs.Values.{Values, writing_values}
+use Rattle.document.specs.Values.{Values, length_values}
 use Rattle.document.specs.Write.{Write, writes, refuses, readable, write, write_values, buffer_after}
 use Rattle.document.specs.declared.table.Table.{Table}
 use Rattle.document.specs.declared.table.Writing.{Writing}
@@ -70,7 +70,7 @@ module _ (purpose : ℕ) (area strings out : List ℕ) where
         module _ {ws out' : List ℕ} {w : Writing} (l : r.laid ≡ true) (e : ws ≡ words_in area)
             (f : WritesWords purpose r.head r.count r.text ws strings out w out') where
           abbrev Answers : Write → Type 0
-          Answers x = (writing_values w ≡ write_values x) × (out' ≡ buffer_after x out)
+          Answers x = (length_values w ≡ write_values x) × (out' ≡ buffer_after x out)
 
           -- A readable table with these words would make the bytes an area.
           no_readable : is_area area ≡ false → (t : Table) → ByWords t r.head r.count r.text ws → readable purpose t strings ≡ true → ⊥

@@ -1,4 +1,5 @@
 -- A meal code that is read is at most 6.
+use Rattle.std.specs.Prelude.{Ok, Err}
 use Prim.Native.Nat.{ℕ, ◌≤◌}
 use mathlib.Core.Path.{◌≡◌, refl, subst}
 use mathlib.Core.List.{List}
@@ -9,9 +10,8 @@ use lib.Dec.{leb}
 use borrow.Author.Tests.{leb-true}
 use Rattle.json_grammar.specs.Rows.{choose}
 use Rattle.json_grammar.specs.Tree.{Place, Tree, object, list, string, number, bool, null}
-use Rattle.document_numbers.specs.Number.{integer_in, carried, negative, rounded, all_zero, behind_point}
-use Rattle.document_numbers.specs.declared.Integer.{Integer}
-use Rattle.document_numbers.specs.declared.Integer.TheVariants as I
+use Rattle.document_numbers.specs.Number.{Integer, integer_in, carried, negative, rounded, all_zero, behind_point}
+use Rattle.document_numbers.specs.declared.NumberError.TheVariants as N
 use Rattle.document.specs.Lookup.{Found, one}
 use Rattle.document.specs.Schema.{a_number, integer}
 use Rattle.document.specs.Visit.{State, Outcome, done, refuse, present, whole, Value, value_of, optional}
@@ -23,11 +23,11 @@ value (done x l) = x
 value (refuse n p) = none
 
 abbrev most : Integer → ℕ
-most (I.Whole n exact) = n
-most I.NotCarried = 0
-most I.Outside = 0
+most (Ok i) = i.value
+most (Err N.NotCarried) = 0
+most (Err N.Outside) = 0
 
-in_range : (hi : ℕ) (a b : Bool) (m : ℕ) (exact : Bool) (c : Bool) → (c ≡ true → m ≤ hi) → most (choose a (λ _. cond b I.Outside (cond c (I.Whole m exact) I.Outside)) λ _. I.NotCarried) ≤ hi
+in_range : (hi : ℕ) (a b : Bool) (m : ℕ) (exact : Bool) (c : Bool) → (c ≡ true → m ≤ hi) → most (choose a (λ _. cond b (Err N.Outside) (cond c (Ok (record { value = m; exact = exact })) (Err N.Outside))) λ _. Err N.NotCarried) ≤ hi
 in_range hi true true m exact c h = omega arith
 in_range hi true false m exact true h = h refl
 in_range hi true false m exact false h = omega arith
@@ -40,9 +40,9 @@ integer_most lo hi raw =
     (λ e. leb-true (rounded raw) hi (and_right (leb lo (rounded raw)) (leb (rounded raw) hi) e))
 
 whole_most : (hi : ℕ) (p : Place) (l : State) (i : Integer) → most i ≤ hi → get_or (value (present (whole p l i))) 0 ≤ hi
-whole_most hi p l (I.Whole n exact) h = h
-whole_most hi p l I.NotCarried h = omega arith
-whole_most hi p l I.Outside h = omega arith
+whole_most hi p l (Ok i) h = h
+whole_most hi p l (Err N.NotCarried) h = omega arith
+whole_most hi p l (Err N.Outside) h = omega arith
 
 tree_most : (lo hi : ℕ) (t : Tree) (p : Place) (l : State) → get_or (value (optional (a_number (integer lo hi)) p (one (value_of t)) l)) 0 ≤ hi
 unfolding value_of

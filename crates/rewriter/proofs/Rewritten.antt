@@ -8,7 +8,7 @@ use Rattle.json_grammar.proofs.Truth.{never}
 use Rattle.document.specs.Valid.{strings}
 use Rattle.document.specs.Table.{table_of}
 use Rattle.document.specs.Words.{width, words_at_most, all_words, rows}
-use Rattle.document.specs.Values.{accepted, ends, number, writing_values}
+use Rattle.document.specs.Values.{accepted, ends, number, length_values}
 use Rattle.document.specs.Answer as A
 use Rattle.document.specs.Answer.{Read, taken, refused, read, read_values, table_after, in_room}
 use Rattle.document.specs.Write.{Write, write_values, buffer_after, in_greatest_room}
@@ -31,7 +31,7 @@ pub tidied_length : {tidied : List ℕ} (n : ℕ) (ws : List ℕ) → tidied ≡
 tidied_length n ws e = sym (ap length e ∙ records_length (records_in n ws) ∙ ap (λ (k : ℕ). k * width) (in_length n ws))
 
 rewrites : {purpose : ℕ} {text before after : List ℕ} {r : Writing} {x : Read} → read (in_greatest_room purpose) text ≡ x
-    → writing_values r ≡ write_values (plain_of_read x) → after ≡ buffer_after (plain_of_read x) before → Rewrites purpose text before r after
+    → length_values r ≡ write_values (plain_of_read x) → after ≡ buffer_after (plain_of_read x) before → Rewrites purpose text before r after
 unfolding rewritten
 rewrites {before = before} e a l =
     let f = ap plain_of_read (sym e) in

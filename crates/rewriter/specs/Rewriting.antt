@@ -3,7 +3,7 @@ use Rattle.std.specs.Prelude.{◌≡◌, List, ℕ}
 use Rattle.document.specs.Plain.{plain}
 use Rattle.document.specs.Answer.{Read, taken, refused, read}
 use Rattle.document.specs.Write.{Write, writes, refuses, write_values, buffer_after, in_greatest_room}
-use Rattle.document.specs.Values.{writing_values}
+use Rattle.document.specs.Values.{length_values}
 use Rattle.document.specs.declared.table.Writing.{Writing}
 
 abbrev pub plain_of_read : Read → Write
@@ -15,5 +15,5 @@ rewritten purpose text = plain_of_read (read (in_greatest_room purpose) text)
 
 -- The promise: a refusal leaves each byte of the buffer.
 pub record Rewrites (purpose : ℕ) (text before : List ℕ) (r : Writing) (after : List ℕ) : Type 0 where
-  pub answer : writing_values r ≡ write_values (rewritten purpose text)
+  pub answer : length_values r ≡ write_values (rewritten purpose text)
   pub left : after ≡ buffer_after (rewritten purpose text) before

@@ -7,7 +7,7 @@ use lib.Dec.{leb}
 use lib.ListN.{length}
 use borrow.Author.Tests.{le-leb, lt-leb}
 use Rattle.json_grammar.proofs.Truth.{and_both, cond_true}
-use Rattle.document.specs.Values.{ends, writing_values, measuring_values}
+use Rattle.document.specs.Values.{ends, length_values, length_values}
 use Rattle.document.specs.Write.{Writes}
 use Rattle.document.specs.Length.{bound, greatest_length, longest, needed, Measures}
 use Rattle.document.specs.declared.table.Table.{Table}
@@ -16,11 +16,11 @@ use Rattle.document.specs.declared.table.Measuring.{Measuring}
 use Rattle.document_meaning.proofs.TableLengths.{written_needed, length_bounded}
 
 module _ {purpose : ℕ} {t : Table} {text : List ℕ} (r : Measuring) where
-  pub measures : {before after : List ℕ} {w : Writing} → Writes purpose t text before w after → measuring_values r ≡ needed (writing_values w)
+  pub measures : {before after : List ℕ} {w : Writing} → Writes purpose t text before w after → length_values r ≡ needed (length_values w)
       → Measures purpose t text r
   measures {before} p e = record { answer = e ∙ ap needed p.answer ∙ written_needed purpose t text (length before) }
 
-  pub bounded : Measures purpose t text r → (n : ℕ) → measuring_values r ≡ ends n → (n ≤ bound t.count t.text) × (n ≤ greatest_length)
+  pub bounded : Measures purpose t text r → (n : ℕ) → length_values r ≡ ends n → (n ≤ bound t.count t.text) × (n ≤ greatest_length)
   bounded m n f = length_bounded purpose t text n (sym m.answer ∙ f)
 
 pub longest_bound : (count text : ℕ) → count ≤ 64 → text ≤ 2048 → longest count text ≡ bound count text

@@ -3,7 +3,7 @@
 use Rattle.std.specs.Prelude.{◌≡◌, List, true, ℕ}
 use Rattle.json_grammar.specs.Rows.{choose}
 use Rattle.document.specs.Valid.{is_use}
-use Rattle.document.specs.Values.{writing_values}
+use Rattle.document.specs.Values.{length_values}
 use Rattle.document.specs.Write.{Write, refuses, readable, write_values, Writes}
 use Rattle.document.specs.declared.table.Head.{Head}
 use Rattle.document.specs.declared.table.Table.{Table}
@@ -20,5 +20,5 @@ module _ (purpose : ℕ) (h : Head) (count text : ℕ) (ws strings before : List
 
   pub record WritesWords (r : Writing) (after : List ℕ) : Type 0 where
     pub writes : (t : Table) → ByWords t h count text ws → Writes purpose t strings before r after
-    pub answer : NoneReadable → writing_values r ≡ write_values (unwritten purpose)
+    pub answer : NoneReadable → length_values r ≡ write_values (unwritten purpose)
     pub left : NoneReadable → after ≡ before

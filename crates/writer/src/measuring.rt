@@ -1,6 +1,6 @@
 // The length of a plain text that is not written (document 02, Wish 10).
 ghost use Rattle.std.specs.Prelude.{◌≡◌, ℕ, ◌≤◌};
-ghost use Rattle.document.specs.Values.{ends, number, measuring_values};
+ghost use Rattle.document.specs.Values.{ends, number, length_values};
 ghost use Rattle.document.specs.Length.{bound, greatest_length, needed, Measures};
 
 use crate::write;
@@ -8,7 +8,7 @@ use document::table::{Measuring, Table, Writing};
 
 // 19 tells the length that the buffer has to have.
 fn needed(n: u8, place: usize) -> Measuring
-    ensures { measuring_values result ≡ needed (number n place) }
+    ensures { length_values result ≡ needed (number n place) }
 {
     match n {
         19 => Measuring::Measured { length: place },
@@ -23,7 +23,7 @@ fn needed(n: u8, place: usize) -> Measuring
 // so never over 20,736 (`LONGEST_PLAIN`). 17 and 18 as of `write`, and never 19.
 pub fn length(t: Table, strings: &[u8], purpose: u64) -> Measuring
     ensures measures { Measures purpose t strings.now result }
-    ensures by_index { (n : ℕ) → measuring_values result ≡ ends n → (n ≤ bound t.count t.text) × (n ≤ greatest_length) }
+    ensures by_index { (n : ℕ) → length_values result ≡ ends n → (n ≤ bound t.count t.text) × (n ≤ greatest_length) }
 {
     let mut nowhere = [0u8; 1];
     let w = write(t, strings, purpose, &mut nowhere);

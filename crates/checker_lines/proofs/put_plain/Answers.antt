@@ -3,7 +3,7 @@ use mathlib.Core.Path.{refl, sym, ap, ◌∙◌}
 use mathlib.Core.List.{[]}
 use native.Mathlib.Omega.{arith}
 use lib.ListN.{length}
-use Rattle.document.specs.Values.{writing_values}
+use Rattle.document.specs.Values.{length_values}
 use Rattle.document.specs.Plain.{plain}
 use Rattle.document.specs.Write.{write_values, buffer_after, Write}
 use Rattle.document_meaning.proofs.Lengths.{plain_within}
@@ -15,14 +15,14 @@ pub returns-in-Written : goal.returns-in-Written
 returns-in-Written c p behind v f t s =
     let x = plain_fitting p behind (length c.args.out.now) v f t s in
     line_written (length c.args.out.now) (plain p) refl (omega arith)
-    (ap writing_values (sym c.in-Written.is) ∙ c.write.ensures.answer ∙ ap write_values x)
+    (ap length_values (sym c.in-Written.is) ∙ c.write.ensures.answer ∙ ap write_values x)
     (c.write.ensures.left ∙ ap (λ (y : Write). buffer_after y c.args.out.now) x)
     (c.put.ensures [])
 
 pub returns-in-Refused : goal.returns-in-Refused
 returns-in-Refused c p behind v f t s =
     let x = plain_fitting p behind (length c.args.out.now) v f t s in
-    let told = ap writing_values (sym c.in-Refused.is) ∙ c.write.ensures.answer ∙ ap write_values x in
+    let told = ap length_values (sym c.in-Refused.is) ∙ c.write.ensures.answer ∙ ap write_values x in
     let near = refused_near (length c.args.out.now) (plain p) told (plain_within for_plan p v.1 f) in
     line_refused (length c.args.out.now) (plain p) told (c.write.ensures.left ∙ ap (λ (y : Write). buffer_after y c.args.out.now) x)
     (c.put_refusal.ensures near.0 near.1)
