@@ -1,4 +1,6 @@
 -- Demand 2: what is accepted is what spells a valid posology; what is written reads back.
+use Rattle.std.specs.Prelude.{Result, Ok}
+use Rattle.document.specs.declared.refusal.Refusal.{Refusal}
 use mathlib.Core.Path.{◌≡◌}
 use mathlib.Core.List.{List, ◌++◌}
 use mathlib.Core.Bool.{true}
@@ -18,9 +20,6 @@ use Rattle.document_meaning.proofs.ReadTables.{readable_read, read_readable}
 use Rattle.document_meaning.proofs.Spelled.{accepted_spells, spelled_accepted, one_posology}
 use Rattle.document.specs.declared.table.Table.{Table}
 use Rattle.document.specs.declared.table.Reading.{Reading}
-use Rattle.document.specs.declared.table.Answer.TheVariants as A
-use Rattle.document.specs.declared.table.Writing.{Writing}
-use Rattle.document.specs.declared.table.Writing.TheVariants.{Written}
 use Rattle.document.specs.declared.terms.Terms.{Terms}
 use Rattle.demands.specs.Tables.{WrittenAndRead}
 use Rattle.demands.proofs.TablesBack.{written_and_read, promised_back}
@@ -54,7 +53,7 @@ pub table_written_and_read : (purpose : ℕ) (t : Table) (bytes : List ℕ) → 
 table_written_and_read purpose t bytes u h = written_and_read purpose t bytes u h
 
 -- The same of what the functions promise: `write` wrote a table, and `read` reads what it wrote.
-pub written_then_read : {purpose n : ℕ} {t : Table} {text before after strings strings' : List ℕ} {w : Writing} {r : Reading}
-    → Writes purpose t text before w after → w ≡ Written n → Reads purpose (take n after) strings r strings' → t.text ≤ length strings
-    → (r.answer ≡ A.Taken) × (r.table ≡ t) × (take t.text strings' ≡ take t.text text)
+pub written_then_read : {purpose n : ℕ} {t : Table} {text before after strings strings' : List ℕ} {w : Result ℕ Refusal} {r : Reading}
+    → Writes purpose t text before w after → w ≡ Ok n → Reads purpose (take n after) strings r strings' → t.text ≤ length strings
+    → (r.answer ≡ Ok tt) × (r.table ≡ t) × (take t.text strings' ≡ take t.text text)
 written_then_read a e b f = promised_back a e b f

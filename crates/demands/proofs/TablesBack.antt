@@ -1,4 +1,6 @@
 -- A table that is written comes back with its text bytes.
+use Rattle.std.specs.Prelude.{Result, Ok}
+use Rattle.document.specs.declared.refusal.Refusal.{Refusal}
 use mathlib.Core.Path.{◌≡◌, refl, ap, sym, subst, ◌∙◌}
 use mathlib.Core.List.{List}
 use mathlib.Core.Bool.{true}
@@ -20,9 +22,6 @@ use Rattle.document.specs.Write as W
 use Rattle.document.specs.Write.{Write, writes, refuses, write, fitting, readable, write_values, Writes}
 use Rattle.document.specs.declared.table.Table.{Table}
 use Rattle.document.specs.declared.table.Reading.{Reading}
-use Rattle.document.specs.declared.table.Answer.TheVariants as A
-use Rattle.document.specs.declared.table.Writing.{Writing}
-use Rattle.document.specs.declared.table.Writing.TheVariants.{Written}
 use Rattle.document_meaning.proofs.Numbered.{answer_one}
 use Rattle.document_meaning.proofs.PlainTexts.{plain_reads}
 use Rattle.document.proofs.Tables.{stands_for, text_of, stood_written, written_readable, fitted}
@@ -82,16 +81,16 @@ text_first (refuses m at) before e l = let z : ◌≡◌ {A = ℕ} 0 1 = cc in a
 -- What an acceptance leaves.
 taken_leaves : (x : Read) (p : Posology) (before : List ℕ) {r : Reading} {after : List ℕ}
     → x ≡ taken p → answer_values r.answer ≡ read_values x → r.table ≡ table_after x → after ≡ buffer_after x before
-    → (r.answer ≡ A.Taken) × (r.table ≡ table_of p) × (take (length (strings p)) after ≡ strings p)
+    → (r.answer ≡ Ok tt) × (r.table ≡ table_of p) × (take (length (strings p)) after ≡ strings p)
 taken_leaves x p before {r} g e t l = (
-  answer_one r.answer A.Taken (e ∙ ap read_values g),
+  answer_one r.answer (Ok tt) (e ∙ ap read_values g),
   t ∙ ap table_after g,
   ap (take (length (strings p))) (l ∙ ap (λ (y : Read). buffer_after y before) g) ∙ take_at (strings p) (drop (length (strings p)) before) (length (strings p)) refl,
 )
 
-pub promised_back : {purpose n : ℕ} {t : Table} {bytes before after lent left : List ℕ} {w : Writing} {r : Reading}
-    → Writes purpose t bytes before w after → w ≡ Written n → Reads purpose (take n after) lent r left → t.text ≤ length lent
-    → (r.answer ≡ A.Taken) × (r.table ≡ t) × (take t.text left ≡ take t.text bytes)
+pub promised_back : {purpose n : ℕ} {t : Table} {bytes before after lent left : List ℕ} {w : Result ℕ Refusal} {r : Reading}
+    → Writes purpose t bytes before w after → w ≡ Ok n → Reads purpose (take n after) lent r left → t.text ≤ length lent
+    → (r.answer ≡ Ok tt) × (r.table ≡ t) × (take t.text left ≡ take t.text bytes)
 promised_back {purpose} {n} {t} {bytes} {before} {after} {lent} {left} a e b f =
     let x = text_first (write purpose t bytes (length before)) before (sym (ap length_values e) ∙ a.answer) a.left in
     let k = read_back purpose t bytes x.text lent (length before) x.is f in

@@ -1,4 +1,8 @@
 -- Document 02, Wish 10: a buffer of the length that is told suffices, one byte less gives 19, and how great the length can be.
+use Rattle.std.specs.Prelude.{Result, Ok, Err}
+use Rattle.document.specs.declared.refusal.Refusal.{Refusal}
+use Rattle.document.specs.declared.refusal.Reason.TheVariants.{BufferTooShort}
+use Rattle.document.specs.Refusals.{number_of}
 use mathlib.Core.Path.{◌≡◌, ap, sym, ◌∙◌}
 use mathlib.Core.List.{List, ◌++◌}
 use Prim.Native.Nat.{ℕ, ◌≤◌, ◌<◌}
@@ -12,10 +16,6 @@ use Rattle.document.specs.Values.{ends, number, length_values}
 use Rattle.document.specs.Write.{greatest_room, readable, Write, writes, refuses, write, write_values, buffer_after, Writes}
 use Rattle.document.specs.Length.{bound, greatest_length, length_of, Measures}
 use Rattle.document.specs.declared.table.Table.{Table}
-use Rattle.document.specs.declared.table.Writing.{Writing}
-use Rattle.document.specs.declared.table.Writing.TheVariants.{Written, Refused}
-use Rattle.document.specs.declared.table.Measuring.{Measuring}
-use Rattle.document.specs.declared.table.Measuring.TheVariants as M
 use Rattle.document_meaning.proofs.Numbered.{length_one, length_one}
 use Rattle.document.proofs.Untabled.{untabled}
 use Rattle.document.proofs.Tables.{own_readable}
@@ -49,24 +49,24 @@ module _ (purpose : ℕ) (t : Table) (text : List ℕ) where
   length_within n h = length_bounded purpose t text n h
 
 -- The same of what the functions promise.
-pub determined_length : {purpose : ℕ} {t : Table} {text : List ℕ} {r r' : Measuring}
+pub determined_length : {purpose : ℕ} {t : Table} {text : List ℕ} {r r' : Result ℕ Refusal}
     → Measures purpose t text r → Measures purpose t text r' → r ≡ r'
 determined_length a b = length_one _ _ (a.answer ∙ sym b.answer)
 
-module _ {purpose : ℕ} {t : Table} {text before after : List ℕ} {r : Measuring} {w : Writing}
+module _ {purpose : ℕ} {t : Table} {text before after : List ℕ} {r : Result ℕ Refusal} {w : Result ℕ Refusal}
     (a : Measures purpose t text r) (b : Writes purpose t text before w after) where
-  pub measured_then_written : {n : ℕ} → r ≡ M.Measured n → n ≤ length before → w ≡ Written n
+  pub measured_then_written : {n : ℕ} → r ≡ Ok n → n ≤ length before → w ≡ Ok n
   measured_then_written {n} e f =
       let k = length_fits purpose t text n (sym a.answer ∙ ap length_values e) (length before) f in
-      length_one w (Written n) (b.answer ∙ ap write_values k.1 ∙ ap ends k.2)
+      length_one w (Ok n) (b.answer ∙ ap write_values k.1 ∙ ap ends k.2)
 
-  refused : (m place : ℕ) → write purpose t text (length before) ≡ refuses m place → (w ≡ Refused m place) × (after ≡ before)
-  refused m place k = (length_one w (Refused m place) (b.answer ∙ ap write_values k), b.left ∙ ap (λ (x : Write). buffer_after x before) k)
+  refused : (why : Refusal) → write purpose t text (length before) ≡ refuses (number_of why.0) why.1 → (w ≡ Err why) × (after ≡ before)
+  refused why k = (length_one w (Err why) (b.answer ∙ ap write_values k), b.left ∙ ap (λ (x : Write). buffer_after x before) k)
 
-  pub measured_then_short : {n : ℕ} → r ≡ M.Measured n → length before < n → (w ≡ Refused 19 n) × (after ≡ before)
+  pub measured_then_short : {n : ℕ} → r ≡ Ok n → length before < n → (w ≡ Err (record { 0 = BufferTooShort; 1 = n })) × (after ≡ before)
   measured_then_short {n} e f =
-      refused 19 n (length_exceeds purpose t text n (sym a.answer ∙ ap length_values e) (length before) f)
+      refused (record { 0 = BufferTooShort; 1 = n }) (length_exceeds purpose t text n (sym a.answer ∙ ap length_values e) (length before) f)
 
-  pub measured_refused : {m place : ℕ} → r ≡ M.Refused m place → (w ≡ Refused m place) × (after ≡ before)
-  measured_refused {m} {place} e =
-      refused m place (length_refused purpose t text m place (length before) (sym a.answer ∙ ap length_values e)).0
+  pub measured_refused : {why : Refusal} → r ≡ Err why → (w ≡ Err why) × (after ≡ before)
+  measured_refused {why} e =
+      refused why (length_refused purpose t text (number_of why.0) why.1 (length before) (sym a.answer ∙ ap length_values e)).0

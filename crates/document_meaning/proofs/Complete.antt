@@ -1,5 +1,5 @@
 -- What a tree means is accepted, if it is good.
-use Rattle.std.specs.Prelude.{Ok, Err}
+use Rattle.std.specs.Prelude.{Ok}
 use mathlib.Core.Path.{◌≡◌, refl, ap, sym, subst, ◌∙◌}
 use mathlib.Core.List.{List, [], ◌∷◌, ◌++◌}
 use mathlib.Core.Bool.{Bool, true, false, not, ◌&&◌, false≢true}
@@ -11,7 +11,6 @@ use lib.ListN.{length, drop}
 use borrow.Author.Tests.{le-leb}
 use Rattle.json_grammar.specs.Tree.{Place, Tree, object, list, string, number, bool, null, Members, no_member, member, Elements, no_element, element}
 use Rattle.document_numbers.specs.Number.{Integer, Decimal, integer_in, decimal_from, carried, negative, rounded, all_zero, behind_point, millionths as millionths_of}
-use Rattle.document_numbers.specs.declared.NumberError.TheVariants as N
 use Rattle.document.specs.Bytes.{bytes}
 use Rattle.document.specs.Posology.{Posology}
 use Rattle.document.specs.Lookup.{Entry, same, has, or_else, Found, nothing, one, twice, add, find, repeated, unknown}

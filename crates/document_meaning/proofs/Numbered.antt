@@ -1,5 +1,5 @@
 -- The numbering is one to one: a refusal is known by its number and place, and an answer by its values.
-use Rattle.std.specs.Prelude.{ℕ, Result, Ok, Err}
+use Rattle.std.specs.Prelude.{ℕ, List, [], ◌∷◌, get_or, Result, Ok, Err}
 use mathlib.Core.Path.{◌≡◌, refl, sym, ap, ◌∙◌}
 use Rattle.json_grammar.proofs.Truth.{never}
 use Rattle.document.specs.Refusals.{number_of}
@@ -13,36 +13,16 @@ use Rattle.document.specs.declared.table.Next.TheVariants as N
 use Rattle.document.specs.declared.table.NextReading.{NextReading}
 use Rattle.document.specs.declared.table.Table.{Table}
 
--- The way back from a number; what is none gives the last.
-reason_of : ℕ → Reason
-reason_of 0 = R.Unasked
-reason_of 1 = R.TooLong
-reason_of 2 = R.NotOneObject
-reason_of 3 = R.TooDeep
-reason_of 4 = R.WrongKind
-reason_of 5 = R.UnknownName
-reason_of 6 = R.NameTwice
-reason_of 7 = R.Missing
-reason_of 8 = R.NotCarried
-reason_of 9 = R.OutOfRange
-reason_of 10 = R.TypeNotAllowed
-reason_of 11 = R.WrongCount
-reason_of 12 = R.WrongOrder
-reason_of 13 = R.NotADate
-reason_of 14 = R.SequenceTooDeep
-reason_of 15 = R.TooManyRecords
-reason_of 16 = R.NoTextRoom
-reason_of 17 = R.WrongUse
-reason_of 18 = R.NotReadable
-reason_of 19 = R.BufferTooShort
-reason_of 20 = R.NoShelf
-reason_of 21 = R.NoNumber
-reason_of 22 = R.NumberTaken
-reason_of 23 = R.NumberMissing
-reason_of n = R.NoShelfRoom
+-- In the order of their numbers.
+abbrev reasons : List Reason
+reasons =
+    R.Unasked ∷ R.TooLong ∷ R.NotOneObject ∷ R.TooDeep ∷ R.WrongKind ∷ R.UnknownName ∷ R.NameTwice ∷ R.Missing ∷ R.NotCarried ∷ R.OutOfRange ∷ R.TypeNotAllowed ∷ R.WrongCount ∷ R.WrongOrder
+    ∷ R.NotADate ∷ R.SequenceTooDeep ∷ R.TooManyRecords ∷ R.NoTextRoom ∷ R.WrongUse ∷ R.NotReadable ∷ R.BufferTooShort ∷ R.NoShelf ∷ R.NoNumber ∷ R.NumberTaken ∷ R.NumberMissing ∷ R.NoShelfRoom ∷ []
+
+abbrev reason_of : ℕ → Reason
+reason_of n = get_or reasons n R.Unasked
 
 there_and_back : (a : Reason) → reason_of (number_of a) ≡ a
-unfolding reason_of
 there_and_back R.Unasked = refl
 there_and_back R.TooLong = refl
 there_and_back R.NotOneObject = refl
