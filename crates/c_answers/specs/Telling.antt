@@ -1,8 +1,8 @@
 -- Document 01, "The hospital side calls reading and writing from a C program": the number that a call returns, and the place that it tells.
-use Rattle.std.specs.Prelude.{ℕ}
-use Rattle.document.specs.Values.{Values, accepted, ends, blanks_only, number, next_values, length_values}
-use Rattle.document.specs.declared.table.NextAnswer.{NextAnswer}
-use Rattle.document.specs.declared.table.Writing.{Writing}
+use Rattle.std.specs.Prelude.{ℕ, Result}
+use Rattle.document.specs.Values.{Values, accepted, ends, blanks_only, number, next_values, length_values, refusal_values}
+use Rattle.document.specs.declared.refusal.Refusal.{Refusal}
+use Rattle.document.specs.declared.table.Next.{Next}
 use Rattle.c_answers.specs.declared.Told.{Told}
 
 -- The number of "only blanks remain".
@@ -19,8 +19,11 @@ told (ends e) = tells 0 e
 told (blanks_only n) = tells only_blanks n
 told (number n place) = tells n place
 
-abbrev pub told_next : NextAnswer → Told
+abbrev pub told_refusal : Refusal → Told
+told_refusal r = told (refusal_values r)
+
+abbrev pub told_next : Result Next Refusal → Told
 told_next a = told (next_values a)
 
-abbrev pub told_writing : Writing → Told
+abbrev pub told_writing : Result ℕ Refusal → Told
 told_writing w = told (length_values w)

@@ -2,9 +2,10 @@
 #![tactic(auto)]
 
 ghost use Rattle.std.specs.Prelude.{◌≡◌};
-ghost use Rattle.c_answers.specs.Telling.{tells, told_next, told_writing};
+ghost use Rattle.c_answers.specs.Telling.{tells, told_next, told_refusal, told_writing};
 
-use document::table::{NextAnswer, Writing};
+use document::refusal::Refusal;
+use document::table::Next;
 
 const ONLY_BLANKS: u64 = 255;
 
@@ -14,39 +15,37 @@ pub struct Told {
     pub place: u64,
 }
 
-fn refusal(number: u8, place: usize) -> Told
+fn tells(number: u64, place: usize) -> Told
     ensures { result ≡ tells number place }
 {
     Told {
-        number: number as u64,
+        number,
         place: place as u64,
     }
 }
 
-pub fn told_next(answer: NextAnswer) -> Told
+fn told_refusal(why: Refusal) -> Told
+    ensures { result ≡ told_refusal why }
+{
+    let Refusal(reason, place) = why;
+    tells(u64::from(reason.number()), place)
+}
+
+pub fn told_next(answer: Result<Next, Refusal>) -> Told
     ensures { result ≡ told_next answer }
 {
     match answer {
-        NextAnswer::Taken { end } => Told {
-            number: 0,
-            place: end as u64,
-        },
-        NextAnswer::Blank { length } => Told {
-            number: ONLY_BLANKS,
-            place: length as u64,
-        },
-        NextAnswer::Refused { number, place } => refusal(number, place),
+        Ok(Next::Taken { end }) => tells(0, end),
+        Ok(Next::Blank { length }) => tells(ONLY_BLANKS, length),
+        Err(why) => told_refusal(why),
     }
 }
 
-pub fn told_writing(w: Writing) -> Told
-    ensures { result ≡ told_writing w }
+pub fn told_writing(written: Result<usize, Refusal>) -> Told
+    ensures { result ≡ told_writing written }
 {
-    match w {
-        Writing::Written { length } => Told {
-            number: 0,
-            place: length as u64,
-        },
-        Writing::Refused { number, place } => refusal(number, place),
+    match written {
+        Ok(length) => tells(0, length),
+        Err(refusal) => told_refusal(refusal),
     }
 }
