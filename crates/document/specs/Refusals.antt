@@ -2,6 +2,7 @@
 use Rattle.std.specs.Prelude.{ℕ}
 use Rattle.document.specs.declared.refusal.Reason.{Reason}
 use Rattle.document.specs.declared.refusal.Reason.TheVariants as R
+use Rattle.document.specs.declared.refusal.Refusal.{Refusal}
 
 abbrev pub number_of : Reason → ℕ
 number_of R.Unasked = 0
@@ -29,3 +30,6 @@ number_of R.NoNumber = 21
 number_of R.NumberTaken = 22
 number_of R.NumberMissing = 23
 number_of R.NoShelfRoom = 24
+
+abbrev pub refusal : Reason → ℕ → Refusal
+refusal why place = record { 0 = why; 1 = place }

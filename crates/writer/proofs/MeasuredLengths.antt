@@ -1,22 +1,25 @@
 -- What writing's answer tells of the length, and the bound of a table that is to be written.
+use Rattle.std.specs.Prelude.{Result}
+use Rattle.document.specs.declared.refusal.Refusal.{Refusal}
 use mathlib.Core.Path.{◌≡◌, refl, ap, sym, ◌∙◌}
 use mathlib.Core.List.{List}
 use mathlib.Core.Bool.{Bool, true, false, cond, ◌&&◌}
 use Prim.Native.Nat.{ℕ, ◌≤◌, ◌<◌}
 use lib.Dec.{leb}
 use lib.ListN.{length}
-use borrow.Author.Tests.{le-leb, lt-leb}
+use borrow.Author.Tests.{le-leb, lt-leb, ne_eqb}
 use Rattle.json_grammar.proofs.Truth.{and_both, cond_true}
-use Rattle.document.specs.Values.{ends, length_values, length_values}
+use Rattle.document.specs.Refusals.{number_of}
+use Rattle.document.specs.Values.{ends, length_values, refusal_values}
+use Rattle.document.specs.declared.refusal.Reason.TheVariants.{BufferTooShort}
+use Rattle.document_meaning.proofs.Numbered.{reason_one}
 use Rattle.document.specs.Write.{Writes}
 use Rattle.document.specs.Length.{bound, greatest_length, longest, needed, Measures}
 use Rattle.document.specs.declared.table.Table.{Table}
-use Rattle.document.specs.declared.table.Writing.{Writing}
-use Rattle.document.specs.declared.table.Measuring.{Measuring}
 use Rattle.document_meaning.proofs.TableLengths.{written_needed, length_bounded}
 
-module _ {purpose : ℕ} {t : Table} {text : List ℕ} (r : Measuring) where
-  pub measures : {before after : List ℕ} {w : Writing} → Writes purpose t text before w after → length_values r ≡ needed (length_values w)
+module _ {purpose : ℕ} {t : Table} {text : List ℕ} (r : Result ℕ Refusal) where
+  pub measures : {before after : List ℕ} {w : Result ℕ Refusal} → Writes purpose t text before w after → length_values r ≡ needed (length_values w)
       → Measures purpose t text r
   measures {before} p e = record { answer = e ∙ ap needed p.answer ∙ written_needed purpose t text (length before) }
 
@@ -38,3 +41,7 @@ wordy_longest count text f = go (leb count 64)
     go : (b : Bool) → cond (b && leb text 2048) (bound count text) greatest_length ≡ greatest_length
     go true = rw (lt-leb text 2048 f)
     go false = refl
+
+-- Only 19 tells a length.
+pub no_length : (why : Refusal) → (why.0 ≡ BufferTooShort → ⊥) → refusal_values why ≡ needed (refusal_values why)
+no_length why h = rw (ne_eqb (number_of why.0) 19 (λ e. h (reason_one why.0 BufferTooShort e)))

@@ -1,4 +1,8 @@
 -- What the words of a table are written as: a table that they are is readable exactly when they are.
+use Rattle.std.specs.Prelude.{Result, Err}
+use Rattle.document.specs.declared.refusal.Refusal.{Refusal}
+use Rattle.document.specs.declared.refusal.Reason.TheVariants.{NotReadable, WrongUse}
+use Rattle.document.specs.Refusals.{refusal}
 use mathlib.Core.Path.{◌≡◌, refl, ap, sym, subst}
 use mathlib.Core.List.{List, []}
 use mathlib.Core.Bool.{Bool, true, false}
@@ -12,8 +16,6 @@ use Rattle.document.specs.Words.{all_words, rows}
 use Rattle.document.specs.Write.{readable, refuses, write_values, Writes}
 use Rattle.document.specs.declared.table.Head.{Head}
 use Rattle.document.specs.declared.table.Table.{Table}
-use Rattle.document.specs.declared.table.Writing.{Writing}
-use Rattle.document.specs.declared.table.Writing.TheVariants.{Refused}
 use Rattle.table_words.specs.ByWords.{ByWords}
 use Rattle.table_words.proofs.OneTable.{one_table}
 use Rattle.check_table.specs.Readable.{ReadableWords}
@@ -28,13 +30,13 @@ unwritten_by : (purpose : ℕ) (b : Bool) → is_use purpose ≡ b
 unwritten_by purpose b e = ap (λ x. write_values (choose x (λ _. refuses 18 0) λ _. refuses 17 0)) (sym e)
 
 -- What writing where the buffer may hold the longest text promises.
-abbrev Fitted : Head → ℕ → ℕ → List ℕ → List ℕ → List ℕ → Writing → List ℕ → Type 0
+abbrev Fitted : Head → ℕ → ℕ → List ℕ → List ℕ → List ℕ → Result ℕ Refusal → List ℕ → Type 0
 Fitted h count text ws buffer before r after =
     (d : Tree) → Writable buffer h → DetailPrints ws buffer 3 0 d → length (head_fields buffer h d []) ≤ 6 * text + 128 * count + 256
     → Fits (head_fields buffer h d []) before r after
 
 module _ {purpose count text : ℕ} {h : Head} {ws buffer before : List ℕ} where
-  pub words_not_use : is_use purpose ≡ false → WritesWords purpose h count text ws buffer before (Refused 17 0) before
+  pub words_not_use : is_use purpose ≡ false → WritesWords purpose h count text ws buffer before (Err (refusal WrongUse 0)) before
   words_not_use e = record {
     writes = λ t b. not_use purpose t buffer before e;
     answer = λ f. unwritten_by purpose false e;
@@ -42,14 +44,14 @@ module _ {purpose count text : ℕ} {h : Head} {ws buffer before : List ℕ} whe
   }
 
   pub words_not_readable : is_use purpose ≡ true → (ReadableWords purpose h count text ws buffer → ⊥)
-      → WritesWords purpose h count text ws buffer before (Refused 18 0) before
+      → WritesWords purpose h count text ws buffer before (Err (refusal NotReadable 0)) before
   words_not_readable e unlike = record {
     writes = λ t b. not_readable purpose t buffer before e (sym (never_true _ (λ r. unlike (record { table = t; by = b; readable = r }))));
     answer = λ f. unwritten_by purpose true e;
     left = λ f. refl;
   }
 
-  table_fits : {r : Writing} {after : List ℕ} → is_use purpose ≡ true → ReadableWords purpose h count text ws buffer
+  table_fits : {r : Result ℕ Refusal} {after : List ℕ} → is_use purpose ≡ true → ReadableWords purpose h count text ws buffer
       → Fitted h count text ws buffer before r after → (t : Table) → ByWords t h count text ws → Writes purpose t buffer before r after
   table_fits {r} {after} used read f t b =
       let n = b.all in
@@ -59,7 +61,7 @@ module _ {purpose count text : ℕ} {h : Head} {ws buffer before : List ℕ} whe
       writes_fitting purpose t buffer n used own
       (g _ (writable purpose t buffer n own) (prints purpose t buffer n own) (short purpose t buffer n own))
 
-  pub words_fitting : {r : Writing} {after : List ℕ} → is_use purpose ≡ true → ReadableWords purpose h count text ws buffer
+  pub words_fitting : {r : Result ℕ Refusal} {after : List ℕ} → is_use purpose ≡ true → ReadableWords purpose h count text ws buffer
       → Fitted h count text ws buffer before r after → WritesWords purpose h count text ws buffer before r after
   words_fitting used read f = record {
     writes = table_fits used read f;

@@ -1,4 +1,8 @@
 -- What a readable table is written as.
+use Rattle.std.specs.Prelude.{Result, Ok, Err}
+use Rattle.document.specs.declared.refusal.Refusal.{Refusal}
+use Rattle.document.specs.declared.refusal.Reason.TheVariants.{BufferTooShort, NotReadable, WrongUse}
+use Rattle.document.specs.Refusals.{refusal}
 use mathlib.Core.Path.{◌≡◌, refl, ap, sym, subst, ◌∙◌}
 use mathlib.Core.List.{List, [], ◌++◌, append-nil}
 use mathlib.Core.Bool.{Bool, true, false, cond}
@@ -19,8 +23,6 @@ use Rattle.document.specs.Length.{bound}
 use Rattle.document.specs.Answer.{laid}
 use Rattle.document.specs.declared.table.Table.{Table}
 use Rattle.document.specs.declared.table.Text.{Text}
-use Rattle.document.specs.declared.table.Writing.{Writing}
-use Rattle.document.specs.declared.table.Writing.TheVariants.{Written, Refused}
 use Rattle.document.proofs.Untables.{detail_append}
 use Rattle.document.proofs.Untabled.{bytes_of, strings_append}
 use Rattle.document_meaning.proofs.TableLengths.{readable_length}
@@ -53,15 +55,15 @@ stored {before} {text} p g h =
 fitting_by : (bytes before : List ℕ) (b : _) → leb (length bytes) (length before) ≡ b → fitting (length before) bytes ≡ cond b (writes bytes) (refuses 19 (length bytes))
 fitting_by bytes before b e = ap (λ c. cond c (writes bytes) (refuses 19 (length bytes))) e
 
-pub fits : {bytes before after : List ℕ} {n : ℕ} → n ≡ length bytes → n ≤ length before → after ≡ laid bytes before → Fits bytes before (Written n) after
+pub fits : {bytes before after : List ℕ} {n : ℕ} → n ≡ length bytes → n ≤ length before → after ≡ laid bytes before → Fits bytes before (Ok n) after
 fits {bytes} {before} e h l =
     let f = fitting_by bytes before true (le-leb (length bytes) (length before) (omega arith)) in
     record { answer = ap ends e ∙ sym (ap write_values f); left = l ∙ sym (ap (λ w. buffer_after w before) f) }
 
-pub put_fits : {before text after : List ℕ} {r : ℕ} → Puts before 0 text [] r after → length before ≤ greatest_place → length text ≤ length before → Fits text before (Written r) after
+pub put_fits : {before text after : List ℕ} {r : ℕ} → Puts before 0 text [] r after → length before ≤ greatest_place → length text ≤ length before → Fits text before (Ok r) after
 put_fits p g h = let n = measured p (omega arith) in fits n (omega arith) (stored p g h)
 
-pub fits_not : {bytes before : List ℕ} {n : ℕ} → n ≡ length bytes → length before < n → Fits bytes before (Refused 19 n) before
+pub fits_not : {bytes before : List ℕ} {n : ℕ} → n ≡ length bytes → length before < n → Fits bytes before (Err (refusal BufferTooShort n)) before
 fits_not {bytes} {before} e h =
     let f = fitting_by bytes before false (lt-leb (length bytes) (length before) (omega arith)) in
     record { answer = ap (number 19) e ∙ sym (ap write_values f); left = sym (ap (λ w. buffer_after w before) f) }
@@ -98,17 +100,17 @@ by : (purpose : ℕ) (t : Table) (buffer : List ℕ) (room : ℕ) (a b : Bool) �
 unfolding write
 by purpose t buffer room a b e f = ap (λ x. choose x (λ _. choose (readable purpose t buffer) (λ _. fitting room (plain (posology_of t buffer))) λ _. refuses 18 0) λ _. refuses 17 0) e ∙ ap (λ x. choose a (λ _. choose x (λ _. fitting room (plain (posology_of t buffer))) λ _. refuses 18 0) λ _. refuses 17 0) f
 
-pub writes_fitting : (purpose : ℕ) (t : Table) (buffer : List ℕ) {before after : List ℕ} {r : Writing} → length t.records ≡ 64 → is_use purpose ≡ true → readable purpose t buffer ≡ true → Fits (head_fields buffer t.head (detail_tree (posology_of t buffer).po) []) before r after → Writes purpose t buffer before r after
+pub writes_fitting : (purpose : ℕ) (t : Table) (buffer : List ℕ) {before after : List ℕ} {r : Result ℕ Refusal} → length t.records ≡ 64 → is_use purpose ≡ true → readable purpose t buffer ≡ true → Fits (head_fields buffer t.head (detail_tree (posology_of t buffer).po) []) before r after → Writes purpose t buffer before r after
 writes_fitting purpose t buffer {before} n used h f =
     let e = ap (fitting (length before)) (plainly purpose t buffer n h) ∙ sym (by purpose t buffer (length before) true true used h) in
     record { answer = f.answer ∙ ap write_values e; left = f.left ∙ ap (λ w. buffer_after w before) e }
 
-pub not_use : (purpose : ℕ) (t : Table) (buffer before : List ℕ) → is_use purpose ≡ false → Writes purpose t buffer before (Refused 17 0) before
+pub not_use : (purpose : ℕ) (t : Table) (buffer before : List ℕ) → is_use purpose ≡ false → Writes purpose t buffer before (Err (refusal WrongUse 0)) before
 not_use purpose t buffer before e =
     let f = sym (by purpose t buffer (length before) false (readable purpose t buffer) e refl) in
     record { answer = ap write_values f; left = ap (λ w. buffer_after w before) f }
 
-pub not_readable : (purpose : ℕ) (t : Table) (buffer before : List ℕ) → is_use purpose ≡ true → readable purpose t buffer ≡ false → Writes purpose t buffer before (Refused 18 0) before
+pub not_readable : (purpose : ℕ) (t : Table) (buffer before : List ℕ) → is_use purpose ≡ true → readable purpose t buffer ≡ false → Writes purpose t buffer before (Err (refusal NotReadable 0)) before
 not_readable purpose t buffer before e g =
     let f = sym (by purpose t buffer (length before) true false e g) in
     record { answer = ap write_values f; left = ap (λ w. buffer_after w before) f }

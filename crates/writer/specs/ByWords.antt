@@ -1,5 +1,7 @@
--- Writing a table by its head, its two counts and the words of its records: as the table that they are, and refused where they are no
+-- Result ℕ Refusal a table by its head, its two counts and the words of its records: as the table that they are, and refused where they are no
 -- readable one.
+use Rattle.std.specs.Prelude.{Result}
+use Rattle.document.specs.declared.refusal.Refusal.{Refusal}
 use Rattle.std.specs.Prelude.{◌≡◌, List, true, ℕ}
 use Rattle.json_grammar.specs.Rows.{choose}
 use Rattle.document.specs.Valid.{is_use}
@@ -7,7 +9,6 @@ use Rattle.document.specs.Values.{length_values}
 use Rattle.document.specs.Write.{Write, refuses, readable, write_values, Writes}
 use Rattle.document.specs.declared.table.Head.{Head}
 use Rattle.document.specs.declared.table.Table.{Table}
-use Rattle.document.specs.declared.table.Writing.{Writing}
 use Rattle.table_words.specs.ByWords.{ByWords}
 
 -- "17, 18" in that order
@@ -18,7 +19,7 @@ module _ (purpose : ℕ) (h : Head) (count text : ℕ) (ws strings before : List
   abbrev NoneReadable : Type 0
   NoneReadable = (t : Table) → ByWords t h count text ws → readable purpose t strings ≡ true → ⊥
 
-  pub record WritesWords (r : Writing) (after : List ℕ) : Type 0 where
+  pub record WritesWords (r : Result ℕ Refusal) (after : List ℕ) : Type 0 where
     pub writes : (t : Table) → ByWords t h count text ws → Writes purpose t strings before r after
     pub answer : NoneReadable → length_values r ≡ write_values (unwritten purpose)
     pub left : NoneReadable → after ≡ before

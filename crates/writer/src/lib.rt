@@ -14,7 +14,8 @@ ghost use Rattle.writer.specs.Fits.{Fits};
 ghost use Rattle.writer.specs.ByWords.{WritesWords};
 
 use check_table::is_readable;
-use document::table::{Head, LONGEST_PLAIN, RECORDS, TEXT_ROOM, Table, WORDS, Writing};
+use document::refusal::{Reason, Refusal};
+use document::table::{Head, LONGEST_PLAIN, RECORDS, TEXT_ROOM, Table, WORDS};
 use document::uses::is_use;
 pub use measuring::length;
 use table_words::table_words;
@@ -23,28 +24,23 @@ use table_words::table_words;
 pub fn longest(count: usize, text: usize) -> usize
     ensures { result ≡ longest count text }
 {
-    if count <= RECORDS {
-        if text <= TEXT_ROOM {
-            return 6 * text + 128 * count + 256;
-        }
+    if count <= RECORDS && text <= TEXT_ROOM {
+        return 6 * text + 128 * count + 256;
     }
     LONGEST_PLAIN
 }
 
 // The text is measured before it is laid: one that does not fit changes nothing.
-fn write_measured(h: Head, words: &[u64], strings: &[u8], out: &mut [u8]) -> Writing
+fn write_measured(h: Head, words: &[u64], strings: &[u8], out: &mut [u8]) -> Result<usize, Refusal>
     ensures { (t : Tree) → Writable strings.now h → DetailPrints words.now strings.now 3 0 t → length (head_fields strings.now h t []) ≤ greatest_place → Fits (head_fields strings.now h t []) out.old result out.new }
 {
     let mut nowhere = [0u8; 1];
     let n = write_posology::put_posology(&mut nowhere, 0, h, words, 0, strings);
     if out.len() < n {
-        return Writing::Refused {
-            number: 19,
-            place: n,
-        };
+        return Err(Refusal(Reason::BufferTooShort, n));
     }
     let _ = write_posology::put_posology(out, 0, h, words, 0, strings);
-    Writing::Written { length: n }
+    Ok(n)
 }
 
 // A buffer that holds the longest text of such a table holds this one.
@@ -55,14 +51,13 @@ fn write_fitting(
     words: &[u64],
     strings: &[u8],
     out: &mut [u8],
-) -> Writing
+) -> Result<usize, Refusal>
     requires { (count ≤ 64) × (text ≤ 2048) }
     ensures { (t : Tree) → Writable strings.now h → DetailPrints words.now strings.now 3 0 t → length (head_fields strings.now h t []) ≤ bound count text → Fits (head_fields strings.now h t []) out.old result out.new }
 {
     if longest(count, text) <= out.len() {
-        return Writing::Written {
-            length: write_posology::put_posology(out, 0, h, words, 0, strings),
-        };
+        let n = write_posology::put_posology(out, 0, h, words, 0, strings);
+        return Ok(n);
     }
     write_measured(h, words, strings, out)
 }
@@ -76,26 +71,20 @@ pub fn write_words(
     strings: &[u8],
     purpose: u64,
     out: &mut [u8],
-) -> Writing
+) -> Result<usize, Refusal>
     ensures { WritesWords purpose h count text words.now strings.now out.old result out.new }
 {
     if !is_use(purpose) {
-        return Writing::Refused {
-            number: 17,
-            place: 0,
-        };
+        return Err(Refusal(Reason::WrongUse, 0));
     }
     if !is_readable(h, count, text, words, strings, purpose) {
-        return Writing::Refused {
-            number: 18,
-            place: 0,
-        };
+        return Err(Refusal(Reason::NotReadable, 0));
     }
     write_fitting(h, count, text, words, strings, out)
 }
 
 // Writes the table's plain text into `out`: `strings` is its text buffer.
-pub fn write(t: Table, strings: &[u8], purpose: u64, out: &mut [u8]) -> Writing
+pub fn write(t: Table, strings: &[u8], purpose: u64, out: &mut [u8]) -> Result<usize, Refusal>
     ensures { Writes purpose t strings.now out.old result out.new }
 {
     let words = table_words(t);

@@ -8,7 +8,7 @@ use Rattle.writer.proofs.write_fitting.Goals as goal
 pub returns-then-longest-out : goal.returns-then-longest-out
 returns-then-longest-out c =
     let most = longest_bound c.args.count c.args.text c.requires.0 c.requires.1 in
-    λ t w d s. put_fits (c.put_posology.ensures t [] w d) (omega arith) (omega arith)
+    λ t w d s. put_fits (c.put_posology-n.ensures t [] w d) (omega arith) (omega arith)
 
 pub returns : goal.returns
 returns c =
