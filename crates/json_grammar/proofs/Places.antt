@@ -4,11 +4,11 @@ use mathlib.Core.Path.{◌≡◌, sym, ap, ◌∙◌}
 use mathlib.Core.List.{List}
 use lib.ListN.{length, drop, length-drop}
 use native.Mathlib.Decide.{dec_le}
+use Rattle.std.specs.Prelude.{Result, Ok, Err}
 use native.Mathlib.Omega.{arith}
 use Rattle.json_grammar.specs.Tree.{Place, place_in, Moves}
 use Rattle.json_grammar.specs.Part.{Stop, Stops}
-use Rattle.json_grammar.specs.declared.part.Part.{Part}
-use Rattle.json_grammar.specs.declared.part.Part.TheVariants.{Past, Torn}
+use Rattle.json_grammar.specs.declared.part.Torn.{Torn}
 
 pub place_one : (text : List ℕ) (a b : ℕ) → a ≤ length text → b ≤ length text → drop a text ≡ drop b text → a ≡ b
 place_one text a b h l e = omega (arith, length-drop a text, length-drop b text, ap length e)
@@ -26,8 +26,8 @@ moves_one {text = text} {at} {r} {q} h k = by (dec_le at (length text))
     by (no n) = h.outside (omega arith) ∙ sym (k.outside (omega arith))
 
 -- string_end, number_end and word_end
-pub stops_one : (text : List ℕ) (at : ℕ) (w : Stop) (r q : Part) → Stops text at w r → Stops text at w q → r ≡ q
-stops_one text at w (Past e) (Past f) h k = ap Past (place_one text e f h.2 k.2 (cc))
-stops_one text at w (Past e) (Torn p) h k = cc
-stops_one text at w (Torn p) (Past e) h k = cc
-stops_one text at w (Torn p) (Torn q) h k = ap Torn (place_one text p q h.1 k.1 (cc))
+pub stops_one : (text : List ℕ) (at : ℕ) (w : Stop) (r q : Result ℕ Torn) → Stops text at w r → Stops text at w q → r ≡ q
+stops_one text at w (Ok e) (Ok f) h k = ap Ok (place_one text e f h.2 k.2 (cc))
+stops_one text at w (Ok e) (Err p) h k = cc
+stops_one text at w (Err p) (Ok e) h k = cc
+stops_one text at w (Err p) (Err q) h k = ap (λ (x : ℕ). Err (record { 0 = x })) (place_one text p.0 q.0 h.1 k.1 (cc))

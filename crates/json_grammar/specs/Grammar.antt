@@ -1,5 +1,5 @@
 -- JSON's grammar (RFC 8259) over bytes. `Value t s r`: the bytes s begin with a spelling of the tree t, and r is what is left.
-use Rattle.std.specs.Prelude.{ℕ, ◌+◌, ◌*◌, ◌-◌, ◌≡◌, List, [], ◌∷◌, ◌++◌, true, false}
+use Rattle.std.specs.Prelude.{ℕ, ◌+◌, ◌*◌, ◌-◌, ◌≡◌, List, [], ◌∷◌, ◌++◌, true, false, Some}
 use Rattle.json_grammar.specs.Byte.{is_blank, is_numeric, is_hex, is_d, is_to_7, is_8_to_b, is_c_to_f, is_tail, within, digit, utf8}
 use Rattle.json_grammar.specs.Tree.{Place, Tree, object, list, string, number, bool, null, Members, no_member, member, Elements, no_element, element}
 use Rattle.json_grammar.specs.String.{lead, letter}
@@ -7,7 +7,6 @@ use Rattle.json_grammar.specs.declared.string.Lead.TheVariants.{Ascii, Two, E0, 
 use Rattle.json_grammar.specs.declared.string.Letter.TheVariants.{Means}
 use Rattle.json_grammar.specs.declared.number.InNumber.{InNumber}
 use Rattle.json_grammar.specs.declared.number.InNumber.TheVariants.{Start}
-use Rattle.json_grammar.specs.declared.number.DigitStep.TheVariants.{Onward}
 use Rattle.json_grammar.specs.Number.{onward, may_end}
 
 pub data Blanks : List ℕ → List ℕ → Type 0 where
@@ -32,7 +31,7 @@ pub data Char : List ℕ → List ℕ → List ℕ → Type 0 where
   four_f0 : {b c d e : ℕ} {r : List ℕ} → lead b ≡ F0 → within 0x90 0xC0 c ≡ true → is_tail d ≡ true → is_tail e ≡ true → Char (b ∷ c ∷ d ∷ e ∷ []) (b ∷ c ∷ d ∷ e ∷ r) r
   four_f4 : {b c d e : ℕ} {r : List ℕ} → lead b ≡ F4 → within 0x80 0x90 c ≡ true → is_tail d ≡ true → is_tail e ≡ true → Char (b ∷ c ∷ d ∷ e ∷ []) (b ∷ c ∷ d ∷ e ∷ r) r
   -- a backslash and a letter
-  short : {e m : ℕ} {r : List ℕ} → letter e ≡ Means m → Char (m ∷ []) (92 ∷ e ∷ r) r
+  short : {e m : ℕ} {r : List ℕ} → letter e ≡ Some (Means m) → Char (m ∷ []) (92 ∷ e ∷ r) r
   -- \u and four digits that are no surrogate: the first is no D, or 0 to 7 follow it
   unit : {h i j k : ℕ} {r : List ℕ} → is_d h ≡ false → is_hex h ≡ true → is_hex i ≡ true → is_hex j ≡ true → is_hex k ≡ true
       → Char (utf8 (four h i j k)) (92 ∷ 117 ∷ h ∷ i ∷ j ∷ k ∷ r) r
@@ -52,7 +51,7 @@ pub data Chars : List ℕ → List ℕ → List ℕ → Type 0 where
 pub data Digits : InNumber → List ℕ → List ℕ → List ℕ → Type 0 where
   over : {n : InNumber} → may_end n ≡ true → Digits n [] [] []
   stop : {n : InNumber} {b : ℕ} {r : List ℕ} → may_end n ≡ true → is_numeric b ≡ false → Digits n [] (b ∷ r) (b ∷ r)
-  next : {n m : InNumber} {b : ℕ} {ds s r : List ℕ} → onward n b ≡ Onward m → Digits m ds s r → Digits n (b ∷ ds) (b ∷ s) r
+  next : {n m : InNumber} {b : ℕ} {ds s r : List ℕ} → onward n b ≡ Some m → Digits m ds s r → Digits n (b ∷ ds) (b ∷ s) r
 
 mutual
   pub data Value : Tree → List ℕ → List ℕ → Type 0 where

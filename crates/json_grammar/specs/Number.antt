@@ -1,30 +1,28 @@
 -- A number, byte by byte (RFC 8259, section 6): what may stand next, part by part.
-use Rattle.std.specs.Prelude.{ℕ, Bool, true, false}
+use Rattle.std.specs.Prelude.{ℕ, Bool, true, false, Option, Some, None}
 use Rattle.json_grammar.specs.Rows.{Rows, else, below, look}
 use Rattle.json_grammar.specs.declared.number.InNumber.{InNumber}
 use Rattle.json_grammar.specs.declared.number.InNumber.TheVariants.{Start, Minus, Zero, Whole, Point, Fraction, Mark, Sign, Power}
-use Rattle.json_grammar.specs.declared.number.DigitStep.{DigitStep}
-use Rattle.json_grammar.specs.declared.number.DigitStep.TheVariants.{Onward, Over}
 
--- 43 is +, 45 -, 46 the point, 48 to 57 the digits, 69 and 101 E and e.
-abbrev pub first_digit : Rows DigitStep
-first_digit = below 48 Over (below 49 (Onward Zero) (below 58 (Onward Whole) (else Over)))
+-- None: the number goes on with no such byte. 43 is +, 45 -, 46 the point, 48 to 57 the digits, 69 and 101 E and e.
+abbrev pub first_digit : Rows (Option InNumber)
+first_digit = below 48 None (below 49 (Some Zero) (below 58 (Some Whole) (else None)))
 
-abbrev pub digit_to : InNumber → Rows DigitStep
-digit_to n = below 48 Over (below 58 (Onward n) (else Over))
+abbrev pub digit_to : InNumber → Rows (Option InNumber)
+digit_to n = below 48 None (below 58 (Some n) (else None))
 
-abbrev pub marks : Rows DigitStep
-marks = below 69 Over (below 70 (Onward Mark) (below 101 Over (below 102 (Onward Mark) (else Over))))
+abbrev pub marks : Rows (Option InNumber)
+marks = below 69 None (below 70 (Some Mark) (below 101 None (below 102 (Some Mark) (else None))))
 
-unfoldable pub onward : InNumber → ℕ → DigitStep
+unfoldable pub onward : InNumber → ℕ → Option InNumber
 unfolding look
-onward Start b = look b (below 45 Over (below 46 (Onward Minus) first_digit))
+onward Start b = look b (below 45 None (below 46 (Some Minus) first_digit))
 onward Minus b = look b first_digit
-onward Zero b = look b (below 46 Over (below 47 (Onward Point) marks))
-onward Whole b = look b (below 46 Over (below 47 (Onward Point) (below 48 Over (below 58 (Onward Whole) marks))))
+onward Zero b = look b (below 46 None (below 47 (Some Point) marks))
+onward Whole b = look b (below 46 None (below 47 (Some Point) (below 48 None (below 58 (Some Whole) marks))))
 onward Point b = look b (digit_to Fraction)
-onward Fraction b = look b (below 48 Over (below 58 (Onward Fraction) marks))
-onward Mark b = look b (below 43 Over (below 44 (Onward Sign) (below 45 Over (below 46 (Onward Sign) (digit_to Power)))))
+onward Fraction b = look b (below 48 None (below 58 (Some Fraction) marks))
+onward Mark b = look b (below 43 None (below 44 (Some Sign) (below 45 None (below 46 (Some Sign) (digit_to Power)))))
 onward Sign b = look b (digit_to Power)
 onward Power b = look b (digit_to Power)
 

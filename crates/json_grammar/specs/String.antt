@@ -1,11 +1,11 @@
 -- The inside of a string, byte by byte (RFC 8259, section 7; RFC 3629 for the bytes from 0x80 on).
-use Rattle.std.specs.Prelude.{ℕ, ◌+◌, ◌*◌, ◌/◌, ◌%◌, List, [], ◌∷◌, ◌++◌, Bool, true, false, cond, eqb}
+use Rattle.std.specs.Prelude.{ℕ, ◌+◌, ◌*◌, ◌/◌, ◌%◌, List, [], ◌∷◌, ◌++◌, Bool, true, false, cond, eqb, Option, Some, None}
 use Rattle.json_grammar.specs.Rows.{else, below, look}
 use Rattle.json_grammar.specs.Byte.{within, is_hex, is_d, is_to_7, is_8_to_b, is_c_to_f, is_tail, digit, utf8}
 use Rattle.json_grammar.specs.declared.string.Lead.{Lead}
 use Rattle.json_grammar.specs.declared.string.Lead.TheVariants.{Control, Ascii, Quote, Backslash, Stray, Two, E0, Three, Ed, F0, Four, F4}
 use Rattle.json_grammar.specs.declared.string.Letter.{Letter}
-use Rattle.json_grammar.specs.declared.string.Letter.TheVariants.{Means, Unicode, NoLetter}
+use Rattle.json_grammar.specs.declared.string.Letter.TheVariants.{Means, Unicode}
 use Rattle.json_grammar.specs.declared.string.InString.{InString}
 use Rattle.json_grammar.specs.declared.string.InString.TheVariants.{Plain, Escape, Unit, UnitD, Digit3, Digit2, Digit1, High2, High1, Slash, LetterU, SecondD, SecondC, Tail3, Tail2, Tail1, AfterE0, AfterEd, AfterF0, AfterF4}
 use Rattle.json_grammar.specs.declared.string.CharStep.{CharStep}
@@ -25,12 +25,12 @@ unfolding look
 is_ascii b = look b (below 32 false (below 34 true (below 35 false (below 92 true (below 93 false (below 128 true (else false)))))))
 
 -- What a letter behind a backslash stands for: " \ / b f n r t, and u with four digits behind it.
-unfoldable pub letter : ℕ → Letter
+unfoldable pub letter : ℕ → Option Letter
 unfolding look
 letter b =
-    look b (below 34 NoLetter (below 35 (Means 34) (below 47 NoLetter (below 48 (Means 47) (below 92 NoLetter (below 93 (Means 92)
-    (below 98 NoLetter (below 99 (Means 8) (below 102 NoLetter (below 103 (Means 12) (below 110 NoLetter (below 111 (Means 10)
-    (below 114 NoLetter (below 115 (Means 13) (below 116 NoLetter (below 117 (Means 9) (below 118 Unicode (else NoLetter))))))))))))))))))
+    look b (below 34 None (below 35 (Some (Means 34)) (below 47 None (below 48 (Some (Means 47)) (below 92 None (below 93 (Some (Means 92))
+    (below 98 None (below 99 (Some (Means 8)) (below 102 None (below 103 (Some (Means 12)) (below 110 None (below 111 (Some (Means 10))
+    (below 114 None (below 115 (Some (Means 13)) (below 116 None (below 117 (Some (Means 9)) (below 118 (Some Unicode) (else None))))))))))))))))))
 
 abbrev pub after_lead : Lead → CharStep
 after_lead Control = Refuses
@@ -46,10 +46,10 @@ after_lead F0 = Goes AfterF0
 after_lead Four = Goes Tail3
 after_lead F4 = Goes AfterF4
 
-abbrev pub after_letter : Letter → CharStep
-after_letter (Means m) = Goes Plain
-after_letter Unicode = Goes Unit
-after_letter NoLetter = Refuses
+abbrev pub after_letter : Option Letter → CharStep
+after_letter (Some (Means m)) = Goes Plain
+after_letter (Some Unicode) = Goes Unit
+after_letter None = Refuses
 
 -- to this state where the test holds
 abbrev pub go_if : Bool → InString → CharStep
@@ -113,10 +113,10 @@ unfoldable pub point : ℕ → ℕ
 unfolding look
 point v = look v (below 0x10000 v (else (0x10000 + v / 0x10000 % 0x400 * 0x400 + v % 0x400)))
 
-abbrev pub meant : Letter → List ℕ
-meant (Means m) = m ∷ []
-meant Unicode = []
-meant NoLetter = []
+abbrev pub meant : Option Letter → List ℕ
+meant (Some (Means m)) = m ∷ []
+meant (Some Unicode) = []
+meant None = []
 
 -- What a byte adds to the decoded string. A backslash (92) adds nothing by itself.
 unfoldable pub given : InString → ℕ → ℕ → List ℕ

@@ -1,6 +1,6 @@
 -- The walk: one byte at a time, with the brackets that are open. It settles refusals 2 and 3 and where an object ends
 -- (document 01, "Answers by number": rows 2 and 3, and the order line).
-use Rattle.std.specs.Prelude.{ℕ, List, [], ◌∷◌, length, eqb, ltb}
+use Rattle.std.specs.Prelude.{ℕ, List, [], ◌∷◌, length, eqb, ltb, Option, Some, None}
 use Rattle.json_grammar.specs.Rows.{choose}
 use Rattle.json_grammar.specs.Byte.{is_blank, blanked}
 use Rattle.json_grammar.specs.Tree.{Place}
@@ -12,8 +12,6 @@ use Rattle.json_grammar.specs.declared.string.CharStep.{CharStep}
 use Rattle.json_grammar.specs.declared.string.CharStep.TheVariants.{Goes, Closes, Refuses}
 use Rattle.json_grammar.specs.declared.number.InNumber.{InNumber}
 use Rattle.json_grammar.specs.declared.number.InNumber.TheVariants.{Start}
-use Rattle.json_grammar.specs.declared.number.DigitStep.{DigitStep}
-use Rattle.json_grammar.specs.declared.number.DigitStep.TheVariants.{Onward, Over}
 
 -- An open bracket.
 pub data Frame : Type 0 where
@@ -48,9 +46,9 @@ shut [] = wrong
 shut (f ∷ []) = ended
 shut (f ∷ g ∷ k) = go behind (g ∷ k)
 
-abbrev pub digits : DigitStep → List Frame → Next
-digits (Onward n) k = go (in_number n) k
-digits Over k = wrong
+abbrev pub digits : Option InNumber → List Frame → Next
+digits (Some n) k = go (in_number n) k
+digits None k = wrong
 
 -- The first byte of a value: " { [ t f n, or a number's.
 abbrev pub begin : ℕ → List Frame → Next
@@ -81,9 +79,9 @@ step_chars inside closed Closes k = go closed k
 step_chars inside closed Refuses k = wrong
 
 -- A number ends at a byte that does not go on with it; that byte stands behind the value.
-abbrev pub step_digits : InNumber → DigitStep → ℕ → List Frame → Next
-step_digits n (Onward m) b k = go (in_number m) k
-step_digits n Over b k = choose (may_end n) (λ _. step_behind b k) λ _. wrong
+abbrev pub step_digits : InNumber → Option InNumber → ℕ → List Frame → Next
+step_digits n (Some m) b k = go (in_number m) k
+step_digits n None b k = choose (may_end n) (λ _. step_behind b k) λ _. wrong
 
 abbrev pub step_word : List ℕ → ℕ → List Frame → Next
 step_word [] b k = wrong

@@ -13,9 +13,3 @@ pub enum InNumber {
     Sign, // behind the exponent's sign
     Power, // behind a digit of the exponent
 }
-
-#[derive(Clone, Copy)]
-pub enum DigitStep {
-    Onward(InNumber),
-    Over,
-}

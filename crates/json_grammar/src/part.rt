@@ -1,6 +1,3 @@
-// Where a part of a text ends, or the first byte that breaks it.
-#[derive(Clone, Copy)]
-pub enum Part {
-    Past(usize),
-    Torn(usize),
-}
+// The first byte that breaks a part of a text; a part that ends has the place behind it.
+#[derive(Clone, Copy, Debug, PartialEq, Eq)]
+pub struct Torn(pub usize);

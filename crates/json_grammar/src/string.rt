@@ -21,8 +21,7 @@ pub enum Lead {
 #[derive(Clone, Copy)]
 pub enum Letter {
     Means(u8),
-    Unicode,
-    NoLetter,
+    Unicode, // the digits behind it say
 }
 
 // What may stand next inside a string.
