@@ -6,8 +6,9 @@ use mathlib.Core.List.{List, [], ◌∷◌}
 use lib.ListN.{length, get_or}
 use native.Mathlib.Nat.{zero-add}
 use native.Mathlib.Omega.{arith}
+use Rattle.std.specs.Prelude.{Some}
 use Rattle.json_grammar.specs.Rows.{look}
-use Rattle.json_grammar.specs.Byte.{is_hex, is_d, is_to_7, is_8_to_b, is_c_to_f, within, digit, utf8}
+use Rattle.json_grammar.specs.Byte.{is_hex, is_d, is_to_7, is_8_to_b, is_c_to_f, digit, utf8}
 use Rattle.json_grammar.specs.String.{after, lead, letter, gather, given, one_more, point}
 use Rattle.json_grammar.specs.declared.string.Letter.TheVariants.{Means, Unicode}
 use Rattle.json_grammar.specs.declared.string.InString.{InString}
@@ -34,7 +35,7 @@ module _ {text : List ℕ} {at n v : ℕ} (f : v < 0x10000000) (p : ℕ) (e : p 
     -- the last digit of a unit by itself, or of a pair
     ends : Reached text at n [] Digit1 v → Char text at (n + 1) (utf8 (point w))
     unfolding after given gather
-    ends r = rw (no_wrap v (get_or text p 0) f, ← z) at (whole (goes r p e h (rw x)))
+    ends r = rw (no_wrap v (get_or text p 0) f, ← z) at (whole (goes r p e h (rw x)) (omega arith))
 
     -- of a higher half
     halves : Reached text at n [] High1 v → Reached text at (n + 1) [] Slash w
@@ -78,11 +79,11 @@ module _ {text : List ℕ} {at : ℕ} where
       rw z at (goes (starts text at (omega arith)) at (omega arith) h g)
 
   module _ (h : at + 1 < length text) (r : Reached text at 1 [] Escape 0) where
-    pub letter_ends : {m : ℕ} → letter (get_or text (at + 1) 0) ≡ Means m → Char text at 2 (m ∷ [])
+    pub letter_ends : {m : ℕ} → letter (get_or text (at + 1) 0) ≡ Some (Means m) → Char text at 2 (m ∷ [])
     unfolding after given gather
-    letter_ends e = rw e at (whole (goes r (at + 1) refl h {t = Plain} (rw e)))
+    letter_ends e = rw e at (whole (goes r (at + 1) refl h {t = Plain} (rw e)) (omega arith))
 
-    pub unit_starts : letter (get_or text (at + 1) 0) ≡ Unicode → Reached text at 2 [] Unit 0
+    pub unit_starts : letter (get_or text (at + 1) 0) ≡ Some Unicode → Reached text at 2 [] Unit 0
     unfolding after given gather
     unit_starts e = rw e at (goes r (at + 1) refl h {t = Unit} (rw e))
 
@@ -103,16 +104,16 @@ module _ {text : List ℕ} {at w : ℕ} (r : Reached text at 2 [] Unit 0) (room 
       (rw (d, x.first)) (rw x.second) from_none x.fourth (rw x.third)
 
   module _ (d : is_d (get_or text (at + 2) 0) ≡ true) where
-    pub unit_low : within 48 56 (get_or text (at + 3) 0) ≡ true → Char text at 6 (utf8 (point w))
-    unfolding after given gather is_to_7
+    pub unit_low : is_to_7 (get_or text (at + 3) 0) ≡ true → Char text at 6 (utf8 (point w))
+    unfolding after given gather
     unit_low l =
         let q : at + 2 + 1 ≡ at + 3 = omega arith in
         four_end {a = UnitD} {b = Digit2} r (omega arith) (omega arith) unit_counts (λ w b. (refl, refl)) (λ w b. (refl, refl))
         (rw d) (rw (q, l)) from_none x.fourth (rw x.third)
 
-    pub unit_high : within 48 56 (get_or text (at + 3) 0) ≡ false → is_8_to_b (get_or text (at + 3) 0) ≡ true
+    pub unit_high : is_to_7 (get_or text (at + 3) 0) ≡ false → is_8_to_b (get_or text (at + 3) 0) ≡ true
         → Reached text at 6 [] Slash w
-    unfolding after given gather is_to_7
+    unfolding after given gather
     unit_high l m =
         let q : at + 2 + 1 ≡ at + 3 = omega arith in
         four_halve {a = UnitD} {b = High2} r (omega arith) (omega arith) unit_counts (λ w b. (refl, refl)) (λ w b. (refl, refl))
@@ -131,7 +132,6 @@ module _ {text : List ℕ} {at high w : ℕ} (r : Reached text at 6 [] Slash hig
       four_end {a = SecondC} {b = Digit2} r₈ f (omega arith) (λ b. (refl, refl)) (λ w b. (refl, refl)) (λ w b. (refl, refl))
       (rw d) (rw (q, l)) z x.fourth (rw x.third)
 
-pub escape_passes : {text : List ℕ} {at : ℕ} (e : Escape.Escape) → Escapes text at e → 0 < width_of e → Passes text at (width_of e)
-escape_passes E.None x h = absurd (omega arith)
-escape_passes (E.Letter m) x h = x.passes
-escape_passes (E.Digits v n) x h = x.passes
+pub escape_passes : {text : List ℕ} {at : ℕ} (e : Escape.Escape) → Escapes text at e → Passes text at (width_of e)
+escape_passes (E.Letter m) x = x.passes
+escape_passes (E.Digits v n) x = x.passes

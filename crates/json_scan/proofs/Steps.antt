@@ -47,5 +47,5 @@ module _ {text : List ℕ} {at n : ℕ} {bytes : List ℕ} {s : InString} {v : �
         ∙ prepend_twice bytes _ _;
   }
 
-pub whole : {text : List ℕ} {at n : ℕ} {bytes : List ℕ} → Reached text at n bytes Plain 0 → Char text at n bytes
-whole r = record { passes = record { inside = r.inside; same = r.same }; decodes = r.decodes }
+pub whole : {text : List ℕ} {at n : ℕ} {bytes : List ℕ} → Reached text at n bytes Plain 0 → 0 < n → Char text at n bytes
+whole r f = record { passes = record { forward = f; inside = r.inside; same = r.same }; decodes = r.decodes }

@@ -2,16 +2,15 @@
 use Prim.Native.Nat.{ℕ, ◌≤◌}
 use mathlib.Core.Path.{◌≡◌, refl, ◌∙◌}
 use mathlib.Core.List.{List, [], ◌∷◌}
-use mathlib.Core.Bool.{Bool, true, false, cond, false≢true}
-use lib.Dec.{ltb}
+use mathlib.Core.Bool.{true}
 use native.Mathlib.Omega.{arith}
+use Rattle.std.proofs.lemmas.Bool.Decides.{nat_tests}
+use Rattle.std.specs.Prelude.{Result, Ok, Err}
 use Rattle.json_grammar.specs.Rows.{look}
 use Rattle.json_grammar.specs.String.{after, lead, is_ascii}
 use Rattle.json_grammar.specs.Part.{Stop, past, torn, string_stop, Stops}
-use Rattle.json_grammar.specs.declared.part.Part.{Part}
-use Rattle.json_grammar.specs.declared.part.Part.TheVariants.{Past, Torn}
-use Rattle.json_grammar.specs.declared.string.Lead.{Lead}
-use Rattle.json_grammar.specs.declared.string.Lead.TheVariants.{Control, Ascii, Quote, Backslash}
+use Rattle.json_grammar.specs.declared.part.Torn.{Torn}
+use Rattle.json_grammar.specs.declared.string.Lead.TheVariants.{Ascii}
 use Rattle.json_grammar.specs.declared.string.InString.{InString}
 use Rattle.json_grammar.specs.declared.string.InString.TheVariants.{Plain}
 use Rattle.json_grammar.specs.declared.string.CharStep.TheVariants.{Goes, Closes, Refuses}
@@ -39,19 +38,9 @@ unfolding after lead look
 quote_closes b e = rw e
 
 -- a byte that is plain ASCII is a character
-ascii_rows : (a b c d e f : Bool) (rest : Lead) → cond a false (cond b true (cond c false (cond d true (cond e false (cond f true false))))) ≡ true
-    → cond a Control (cond b Ascii (cond c Quote (cond d Ascii (cond e Backslash (cond f Ascii rest))))) ≡ Ascii
-ascii_rows true b c d e f rest h = absurd (false≢true h)
-ascii_rows false true c d e f rest h = refl
-ascii_rows false false true d e f rest h = absurd (false≢true h)
-ascii_rows false false false true e f rest h = refl
-ascii_rows false false false false true f rest h = absurd (false≢true h)
-ascii_rows false false false false false true rest h = refl
-ascii_rows false false false false false false rest h = absurd (false≢true h)
-
 pub ascii_lead : (b : ℕ) → is_ascii b ≡ true → lead b ≡ Ascii
 unfolding is_ascii lead look
-ascii_lead b h = ascii_rows (ltb b 32) (ltb b 34) (ltb b 35) (ltb b 92) (ltb b 93) (ltb b 128) _ h
+ascii_lead b h = grind (arith, nat_tests)
 
 is_plain : (b : ℕ) → is_ascii b ≡ true → after Plain b ≡ Goes Plain
 unfolding after
@@ -61,6 +50,6 @@ pub ascii_goes : (b : ℕ) → is_ascii b ≡ true → (s : List ℕ) → string
 ascii_goes b h = string_goes Plain b (is_plain b h)
 
 -- Where a string stops is said of a place before.
-pub stops_from : (text : List ℕ) (at i : ℕ) (r : Part) {u w : Stop} → u ≡ w → at ≤ i → Stops text i w r → Stops text at u r
-stops_from text at i (Past e) p l s = (p ∙ s.0, omega (arith, s.1), s.2)
-stops_from text at i (Torn q) p l s = (p ∙ s.0, s.1)
+pub stops_from : (text : List ℕ) (at i : ℕ) (r : Result ℕ Torn) {u w : Stop} → u ≡ w → at ≤ i → Stops text i w r → Stops text at u r
+stops_from text at i (Ok e) p l s = (p ∙ s.0, omega (arith, s.1), s.2)
+stops_from text at i (Err q) p l s = (p ∙ s.0, s.1)

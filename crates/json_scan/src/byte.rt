@@ -1,61 +1,57 @@
 // Bytes by their kinds.
+#![tactic(auto, using(std::proofs::lemmas::Bool::Decides::nat_tests), unfolding(json_grammar::specs::Rows::look, json_grammar::specs::Byte::is_blank, json_grammar::specs::Byte::is_hex, json_grammar::specs::Byte::is_d, json_grammar::specs::Byte::is_to_7, json_grammar::specs::Byte::is_8_to_b, json_grammar::specs::Byte::is_c_to_f, json_grammar::specs::Byte::within, json_grammar::specs::Byte::digit))]
+
 ghost use Rattle.std.specs.Prelude.{◌≡◌, ◌<◌};
-ghost use Rattle.json_grammar.specs.Byte.{is_blank, is_hex, is_d, is_8_to_b, is_c_to_f, within as between, digit, blanked};
+ghost use Rattle.json_grammar.specs.Byte.{is_blank, is_hex, is_d, is_to_7, is_8_to_b, is_c_to_f, within as between, digit, blanked};
 ghost use Rattle.json_grammar.specs.Tree.{Moves};
 
 pub fn is_blank(b: u8) -> bool
     ensures { result ≡ is_blank b }
 {
-    match b {
-        b' ' | b'\t' => true,
-        b'\n' | b'\r' => true,
-        _ => false,
-    }
+    matches!(b, b' ' | b'\t' | b'\n' | b'\r')
 }
 
 // From lo on, and below hi.
 pub fn within(lo: u8, hi: u8, b: u8) -> bool
     ensures { result ≡ between lo hi b }
 {
-    if b < lo {
-        return false;
-    }
-    b < hi
+    lo <= b && b < hi
 }
 
 pub fn is_hex(b: u8) -> bool
     ensures { result ≡ is_hex b }
 {
-    // 0 is the one digit that counts 0, as what is no digit does
-    if b == b'0' {
-        return true;
-    }
-    0 < digit_of(b)
+    b.is_ascii_hexdigit()
 }
 
 pub fn is_d(b: u8) -> bool
     ensures { result ≡ is_d b }
 {
-    digit_of(b) == 13
+    matches!(b, b'D' | b'd')
+}
+
+pub fn is_to_7(b: u8) -> bool
+    ensures { result ≡ is_to_7 b }
+{
+    matches!(b, b'0'..=b'7')
 }
 
 pub fn is_8_to_b(b: u8) -> bool
     ensures { result ≡ is_8_to_b b }
 {
-    // of the digit's four bits the upper two are 10
-    digit_of(b) / 4 == 2
+    matches!(b, b'8' | b'9' | b'A' | b'B' | b'a' | b'b')
 }
 
 pub fn is_c_to_f(b: u8) -> bool
     ensures { result ≡ is_c_to_f b }
 {
-    12 <= digit_of(b)
+    matches!(b, b'C'..=b'F' | b'c'..=b'f')
 }
 
 pub fn wide(b: u8) -> u64
     ensures { result ≡ b }
 {
-    b as u64
+    u64::from(b)
 }
 
 // What a hexadecimal digit counts.
@@ -63,38 +59,22 @@ pub fn digit_of(b: u8) -> u64
     ensures value { result ≡ digit b }
     ensures upper_bound { result < 16 }
 {
-    if b < 48 {
-        return 0;
+    match b {
+        b'0'..=b'9' => u64::from(b - b'0'),
+        b'A'..=b'F' => u64::from(b - b'A' + 10),
+        b'a'..=b'f' => u64::from(b - b'a' + 10),
+        _ => 0,
     }
-    if b < 58 {
-        return wide(b) - 48;
-    }
-    if b < 65 {
-        return 0;
-    }
-    if b < 71 {
-        return wide(b) - 55;
-    }
-    if b < 97 {
-        return 0;
-    }
-    if b < 103 {
-        return wide(b) - 87;
-    }
-    0
 }
 
 // The first place from `at` on whose byte is no blank.
 pub fn blanks_end(text: &[u8], at: usize) -> usize
     ensures { Moves blanked text.now at result }
 {
-    let mut i = at;
-    while i < text.len() {
-        if is_blank(text[i]) {
-            i += 1;
-        } else {
+    for i in at..text.len() {
+        if !is_blank(text[i]) {
             return i;
         }
     }
-    i
+    at.max(text.len())
 }

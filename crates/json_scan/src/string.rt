@@ -1,81 +1,49 @@
 // The inside of a string, byte by byte, and where a string ends.
-ghost use Rattle.std.specs.Prelude.{◌≡◌, true, ◌+◌, ◌<◌, ◌≤◌, length, take, drop};
+ghost use Rattle.std.specs.Prelude.{◌≡◌, true, ◌+◌, ◌≤◌, length, drop, IfSome};
 ghost use Rattle.json_grammar.specs.Byte.{is_hex, is_tail, within as between};
 ghost use Rattle.json_grammar.specs.String.{lead, letter, after, after_lead, after_letter, go_if, is_ascii};
 ghost use Rattle.json_grammar.specs.Part.{string_stop, Stops, Skips};
 ghost use Rattle.json_grammar.specs.declared.string.InString.TheVariants.{Plain, Tail1, Tail2};
-ghost use Rattle.json_scan.specs.Chars.{Char, Passes};
+ghost use Rattle.json_scan.specs.Chars.{Itself, Passes};
 ghost use Rattle.json_scan.specs.Reached.{Opened};
 
 use crate::{byte, escape};
-use json_grammar::part::Part;
+use json_grammar::part::Torn;
 use json_grammar::string::{CharStep, InString, Lead, Letter};
 
+#[tactic(auto, using(std::proofs::lemmas::Bool::Decides::nat_tests), unfolding(json_grammar::specs::String::lead, json_grammar::specs::Rows::look))]
 pub fn lead_of(b: u8) -> Lead
     ensures { result ≡ lead b }
 {
-    if 128 <= b {
-        if b < 0xC2 {
-            return Lead::Stray;
-        }
-        if b < 0xE0 {
-            return Lead::Two;
-        }
-        if b < 0xE1 {
-            return Lead::E0;
-        }
-        if b < 0xED {
-            return Lead::Three;
-        }
-        if b < 0xEE {
-            return Lead::Ed;
-        }
-        if b < 0xF0 {
-            return Lead::Three;
-        }
-        if b < 0xF1 {
-            return Lead::F0;
-        }
-        if b < 0xF4 {
-            return Lead::Four;
-        }
-        if b < 0xF5 {
-            return Lead::F4;
-        }
-        return Lead::Stray;
+    match b {
+        0x00..=0x1F => Lead::Control,
+        b' ' | b'!' | b'#'..=b'[' | b']'..=0x7F => Lead::Ascii,
+        b'"' => Lead::Quote,
+        b'\\' => Lead::Backslash,
+        0xC2..=0xDF => Lead::Two,
+        0xE0 => Lead::E0,
+        0xE1..=0xEC | 0xEE | 0xEF => Lead::Three,
+        0xED => Lead::Ed,
+        0xF0 => Lead::F0,
+        0xF1..=0xF3 => Lead::Four,
+        0xF4 => Lead::F4,
+        _ => Lead::Stray,
     }
-    if 93 <= b {
-        return Lead::Ascii;
-    }
-    if 92 <= b {
-        return Lead::Backslash;
-    }
-    if 35 <= b {
-        return Lead::Ascii;
-    }
-    if 34 <= b {
-        return Lead::Quote;
-    }
-    if 32 <= b {
-        return Lead::Ascii;
-    }
-    Lead::Control
 }
 
-pub fn letter_of(b: u8) -> Letter
+#[tactic(auto, using(std::proofs::lemmas::Bool::Decides::nat_tests), unfolding(json_grammar::specs::String::letter, json_grammar::specs::Rows::look))]
+pub fn letter_of(b: u8) -> Option<Letter>
     ensures { result ≡ letter b }
 {
     match b {
-        b'"' => Letter::Means(b'"'),
-        b'/' => Letter::Means(b'/'),
-        b'\\' => Letter::Means(b'\\'),
-        b'b' => Letter::Means(8),
-        b'f' => Letter::Means(12),
-        b'n' => Letter::Means(10),
-        b'r' => Letter::Means(13),
-        b't' => Letter::Means(9),
-        b'u' => Letter::Unicode,
-        _ => Letter::NoLetter,
+        b'"' | b'/' | b'\\' => Some(Letter::Means(b)),
+        b'b' => Some(Letter::Means(8)),
+        b'f' => Some(Letter::Means(12)),
+        b'n' => Some(Letter::Means(10)),
+        b'r' => Some(Letter::Means(13)),
+        b't' => Some(Letter::Means(9)),
+        b'u' => Some(Letter::Unicode),
+        _ => None,
     }
 }
 
@@ -106,11 +74,10 @@ fn after_lead(b: Lead) -> CharStep
     ensures { result ≡ after_lead b }
 {
     match b {
-        Lead::Control => CharStep::Refuses,
+        Lead::Control | Lead::Stray => CharStep::Refuses,
         Lead::Ascii => CharStep::Goes(InString::Plain),
         Lead::Quote => CharStep::Closes,
         Lead::Backslash => CharStep::Goes(InString::Escape),
-        Lead::Stray => CharStep::Refuses,
         Lead::Two => CharStep::Goes(InString::Tail1),
         Lead::E0 => CharStep::Goes(InString::AfterE0),
         Lead::Three => CharStep::Goes(InString::Tail2),
@@ -121,16 +88,17 @@ fn after_lead(b: Lead) -> CharStep
     }
 }
 
-fn after_letter(l: Letter) -> CharStep
+fn after_letter(l: Option<Letter>) -> CharStep
     ensures { result ≡ after_letter l }
 {
     match l {
-        Letter::Means(_) => CharStep::Goes(InString::Plain),
-        Letter::Unicode => CharStep::Goes(InString::Unit),
-        Letter::NoLetter => CharStep::Refuses,
+        Some(Letter::Means(_)) => CharStep::Goes(InString::Plain),
+        Some(Letter::Unicode) => CharStep::Goes(InString::Unit),
+        None => CharStep::Refuses,
     }
 }
 
+#[tactic(auto, unfolding(json_grammar::specs::String::after))]
 fn after_unit(b: u8) -> CharStep
     ensures { result ≡ after InString.Unit b }
 {
@@ -140,16 +108,18 @@ fn after_unit(b: u8) -> CharStep
     if_hex(b, InString::Digit3)
 }
 
+#[tactic(auto, unfolding(json_grammar::specs::String::after))]
 fn after_unit_d(b: u8) -> CharStep
     ensures { result ≡ after InString.UnitD b }
 {
-    if byte::within(48, 56, b) {
+    if byte::is_to_7(b) {
         return CharStep::Goes(InString::Digit2);
     }
     go_if(byte::is_8_to_b(b), InString::High2)
 }
 
 // What a byte does in a state.
+#[tactic(auto, unfolding(json_grammar::specs::String::after, json_grammar::specs::Byte::is_to_7, json_grammar::specs::Byte::is_tail))]
 pub fn char_after(state: InString, b: u8) -> CharStep
     ensures { result ≡ after state b }
 {
@@ -163,8 +133,8 @@ pub fn char_after(state: InString, b: u8) -> CharStep
         InString::Digit1 => if_hex(b, InString::Plain),
         InString::High2 => if_hex(b, InString::High1),
         InString::High1 => if_hex(b, InString::Slash),
-        InString::Slash => go_if(b == 92, InString::LetterU),
-        InString::LetterU => go_if(b == 117, InString::SecondD),
+        InString::Slash => go_if(b == b'\\', InString::LetterU),
+        InString::LetterU => go_if(b == b'u', InString::SecondD),
         InString::SecondD => go_if(byte::is_d(b), InString::SecondC),
         InString::SecondC => go_if(byte::is_c_to_f(b), InString::Digit2),
         InString::Tail3 => if_within(0x80, 0xC0, b, InString::Tail2),
@@ -183,10 +153,8 @@ fn sixteen_ascii(text: &[u8], at: usize) -> bool
     ensures { result ≡ true → Skips (string_stop Plain) text.now at (at + 16) }
 {
     let mut all = true;
-    let mut k = 0;
-    while k < 16 {
+    for k in 0..16 {
         all = all & is_ascii(text[at + k]);
-        k += 1;
     }
     all
 }
@@ -196,13 +164,7 @@ fn sixteens_end(text: &[u8], at: usize) -> usize
     ensures { Skips (string_stop Plain) text.now at result }
 {
     let mut i = at;
-    while i < text.len() {
-        if text.len() - i < 16 {
-            return i;
-        }
-        if !sixteen_ascii(text, i) {
-            return i;
-        }
+    while i < text.len() && 16 <= text.len() - i && sixteen_ascii(text, i) {
         i += 16;
     }
     i
@@ -213,15 +175,12 @@ fn ascii_upto(text: &[u8], at: usize, most: usize) -> usize
     requires { most ≤ length text.now }
     ensures { Skips (string_stop Plain) text.now at result }
 {
-    let mut i = at;
-    while i < most {
-        if is_ascii(text[i]) {
-            i += 1;
-        } else {
+    for i in at..most {
+        if !is_ascii(text[i]) {
             return i;
         }
     }
-    i
+    at.max(most)
 }
 
 // The first place from `at` on whose byte is no plain ASCII character: most strings are nothing else, and short.
@@ -241,12 +200,14 @@ fn ascii_end(text: &[u8], at: usize) -> usize
     ascii_upto(text, sixteens_end(text, i), text.len())
 }
 
+#[tactic(auto, using(std::proofs::lemmas::Bool::Decides::nat_tests), unfolding(json_grammar::specs::String::is_ascii, json_grammar::specs::Rows::look))]
 pub fn is_ascii(b: u8) -> bool
     ensures { result ≡ is_ascii b }
 {
-    (32 <= b) & (b < 128) & (b != 34) & (b != 92)
+    (b' ' <= b) & (b < 0x80) & (b != b'"') & (b != b'\\')
 }
 
+#[tactic(auto, unfolding(json_grammar::specs::Byte::is_tail))]
 fn is_tail(b: u8) -> bool
     ensures { result ≡ is_tail b }
 {
@@ -254,58 +215,50 @@ fn is_tail(b: u8) -> bool
 }
 
 // Behind the first byte of a character of two.
-fn two_bytes(text: &[u8], at: usize) -> usize
+fn two_bytes(text: &[u8], at: usize) -> Option<usize>
     requires { Opened text.now at 0x80 0xC0 Plain }
-    ensures { 0 < result → Char text.now at result (take result (drop at text.now)) }
+    ensures { IfSome result (Itself text.now at) }
 {
-    if text.len() - at < 2 {
-        return 0;
+    if 2 <= text.len() - at && is_tail(text[at + 1]) {
+        Some(2)
+    } else {
+        None
     }
-    if is_tail(text[at + 1]) {
-        return 2;
-    }
-    0
 }
 
 // Of three, the second from lo on, and below hi.
-fn three_bytes(text: &[u8], at: usize, lo: u8, hi: u8) -> usize
+fn three_bytes(text: &[u8], at: usize, lo: u8, hi: u8) -> Option<usize>
     requires { Opened text.now at lo hi Tail1 }
-    ensures { 0 < result → Char text.now at result (take result (drop at text.now)) }
+    ensures { IfSome result (Itself text.now at) }
 {
-    if text.len() - at < 3 {
-        return 0;
+    if 3 <= text.len() - at && byte::within(lo, hi, text[at + 1]) && is_tail(text[at + 2]) {
+        Some(3)
+    } else {
+        None
     }
-    if byte::within(lo, hi, text[at + 1]) {
-        if is_tail(text[at + 2]) {
-            return 3;
-        }
-    }
-    0
 }
 
-fn four_bytes(text: &[u8], at: usize, lo: u8, hi: u8) -> usize
+fn four_bytes(text: &[u8], at: usize, lo: u8, hi: u8) -> Option<usize>
     requires { Opened text.now at lo hi Tail2 }
-    ensures { 0 < result → Char text.now at result (take result (drop at text.now)) }
+    ensures { IfSome result (Itself text.now at) }
 {
-    if text.len() - at < 4 {
-        return 0;
+    if 4 <= text.len() - at
+        && byte::within(lo, hi, text[at + 1])
+        && is_tail(text[at + 2])
+        && is_tail(text[at + 3])
+    {
+        Some(4)
+    } else {
+        None
     }
-    if byte::within(lo, hi, text[at + 1]) {
-        if is_tail(text[at + 2]) {
-            if is_tail(text[at + 3]) {
-                return 4;
-            }
-        }
-    }
-    0
 }
 
-// How many bytes the character outside ASCII at a place has; 0 where none stands there whole.
-pub fn wide_char(text: &[u8], at: usize) -> usize
-    ensures { 0 < result → Char text.now at result (take result (drop at text.now)) }
+// How many bytes the character outside ASCII at a place has; none where it does not stand there whole.
+pub fn wide_char(text: &[u8], at: usize) -> Option<usize>
+    ensures { IfSome result (Itself text.now at) }
 {
     if text.len() <= at {
-        return 0;
+        return None;
     }
     match lead_of(text[at]) {
         Lead::Two => two_bytes(text, at),
@@ -315,7 +268,7 @@ pub fn wide_char(text: &[u8], at: usize) -> usize
         Lead::F0 => four_bytes(text, at, 0x90, 0xC0),
         Lead::Four => four_bytes(text, at, 0x80, 0xC0),
         Lead::F4 => four_bytes(text, at, 0x80, 0x90),
-        _ => 0,
+        _ => None,
     }
 }
 
@@ -329,7 +282,7 @@ fn ascii_skipped(text: &[u8], state: InString, at: usize) -> usize
 }
 
 // From a place on where a character or the closing quote may stand, byte by byte through the states.
-fn states_end(text: &[u8], at: usize) -> Part
+fn states_end(text: &[u8], at: usize) -> Result<usize, Torn>
     ensures { Stops text.now at (string_stop Plain (drop at text.now)) result }
 {
     let mut i = at;
@@ -340,38 +293,39 @@ fn states_end(text: &[u8], at: usize) -> Part
                 state = next;
                 i = ascii_skipped(text, next, i + 1);
             }
-            CharStep::Closes => return Part::Past(i + 1),
-            CharStep::Refuses => return Part::Torn(i),
+            CharStep::Closes => return Ok(i + 1),
+            CharStep::Refuses => return Err(Torn(i)),
         }
     }
-    Part::Torn(text.len())
+    Err(Torn(text.len()))
 }
 
-// How many bytes the character at a place has where it is not plain ASCII; 0 where none stands there whole.
-fn odd_char(text: &[u8], at: usize) -> usize
-    ensures { 0 < result → Passes text.now at result }
+// How many bytes the character at a place has where it is not plain ASCII; none where it does not stand there whole.
+fn odd_char(text: &[u8], at: usize) -> Option<usize>
+    ensures { IfSome result (Passes text.now at) }
 {
-    let n = wide_char(text, at);
-    if 0 < n {
-        return n;
+    match wide_char(text, at) {
+        Some(n) => Some(n),
+        None => {
+            let escape = escape::escape_at(text, at)?;
+            Some(escape.width())
+        }
     }
-    escape::width(escape::escape_at(text, at))
 }
 
 // The place behind the closing quote: `at` is behind the opening one.
-pub fn string_end(text: &[u8], at: usize) -> Part
+pub fn string_end(text: &[u8], at: usize) -> Result<usize, Torn>
     ensures { Stops text.now at (string_stop Plain (drop at text.now)) result }
 {
     let mut i = ascii_end(text, at);
     while i < text.len() {
         if text[i] == b'"' {
-            return Part::Past(i + 1);
+            return Ok(i + 1);
         }
-        let n = odd_char(text, i);
-        if n == 0 {
-            return states_end(text, i);
+        match odd_char(text, i) {
+            Some(n) => i = ascii_end(text, i + n),
+            None => return states_end(text, i),
         }
-        i = ascii_end(text, i + n);
     }
     states_end(text, i)
 }

@@ -1,12 +1,7 @@
 -- What is left behind blanks is the same from every blank passed.
-use Prim.Native.Nat.{◌-◌}
-use lib.ListN.{length}
 use Rattle.json_grammar.specs.Byte.{blanked}
 use Rattle.json_grammar.proofs.Moves.{Leads}
 use Rattle.json_scan.proofs.byte.blanks_end.Given as goal
 
 abbrev pub invariant-loop-i : goal.invariant-loop-i
 invariant-loop-i l = Leads blanked blanked l.text l.at l.i
-
-abbrev pub decreases-loop-i : goal.decreases-loop-i
-decreases-loop-i l = length l.text - l.i

@@ -10,16 +10,15 @@ use Rattle.json_scan.proofs.string.sixteen_ascii.Goals as goal
 
 pub loop-k-init : goal.loop-k-init
 loop-k-init c =
-    (omega arith, λ h. rw add-zero (passes_none (string_stop Plain) _ _))
+    λ h. rw add-zero (passes_none (string_stop Plain) _ _)
 
 pub loop-k-preserved : goal.loop-k-preserved
 loop-k-preserved c =
-    let l = c.loop-k in (
-      omega arith,
-      λ h. rw (← add_assoc) (passes_one (l.invariant.1 (and_left l.all c.is_ascii-all.result h)) (omega arith)
-          (ascii_goes _ (sym c.is_ascii-all.ensures ∙ and_right l.all c.is_ascii-all.result h))),
-    )
+    let l = c.loop-k in
+    λ h.
+    rw (← add_assoc) (passes_one (l.invariant (and_left l.all c.is_ascii-all.result h)) (omega arith)
+    (ascii_goes _ (sym c.is_ascii-all.ensures ∙ and_right l.all c.is_ascii-all.result h)))
 
 pub returns : goal.returns
 returns c =
-    let e : c.loop-k.k ≡ 16 = omega arith in λ h. skips (rw e at (c.loop-k.invariant.1 h))
+    let e : c.loop-k.k ≡ 16 = omega arith in λ h. skips (rw e at (c.loop-k.invariant h))

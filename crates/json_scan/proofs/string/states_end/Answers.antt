@@ -12,22 +12,19 @@ loop-i-init c =
 
 pub loop-i-preserved : goal.loop-i-preserved
 loop-i-preserved c =
-    let l = c in
     let e = sym c.char_after.ensures ∙ c.in-Goes.is in
-    skipped (passes_one l.loop-i.invariant l.loop-i-test.true (string_goes _ _ e)) c.ascii_skipped-i.ensures
+    skipped (passes_one c.loop-i.invariant c.loop-i-test.true (string_goes _ _ e)) c.ascii_skipped-i.ensures
 
 pub returns-in-Closes : goal.returns-in-Closes
 returns-in-Closes c =
-    let l = c in
     let e = sym c.char_after.ensures ∙ c.in-Closes.is in
-    let p = passes_one l.loop-i.invariant l.loop-i-test.true {k = past} (string_closes _ _ e) in
+    let p = passes_one c.loop-i.invariant c.loop-i-test.true {k = past} (string_closes _ _ e) in
     (sym p.same, p.ahead, omega arith)
 
 pub returns-in-Refuses : goal.returns-in-Refuses
 returns-in-Refuses c =
-    let l = c in
     let e = sym c.char_after.ensures ∙ c.in-Refuses.is in
-    (answers_here l.loop-i.invariant l.loop-i-test.true torn (string_refuses _ _ e), omega arith)
+    (answers_here c.loop-i.invariant c.loop-i-test.true torn (string_refuses _ _ e), omega arith)
 
 pub returns : goal.returns
 returns c =

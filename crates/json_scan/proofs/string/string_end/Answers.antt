@@ -12,30 +12,26 @@ loop-i-init c =
 
 pub returns-then-text-i-eq34 : goal.returns-then-text-i-eq34
 returns-then-text-i-eq34 c =
-    let l = c in
-    let p = passes_one l.loop-i.invariant l.loop-i-test.true {k = past} (string_closes Plain _ (quote_closes _ c.if-text-i-eq34.true)) in
+    let p = passes_one c.loop-i.invariant c.loop-i-test.true {k = past} (string_closes Plain _ (quote_closes _ c.if-text-i-eq34.true)) in
     (sym p.same, p.ahead, omega arith)
 
-pub returns-then-n-eq0 : goal.returns-then-n-eq0
-returns-then-n-eq0 c =
+pub returns-in-None : goal.returns-in-None
+returns-in-None c =
     let l = c.loop-i.invariant in
     stops_from _ _ _ c.states_end.result (sym l.same) l.ahead c.states_end.ensures
 
 pub overflow_add-i : goal.overflow_add-i
 overflow_add-i c =
-    let o = c.odd_char-n.ensures (omega arith) in
-    omega (arith, o.inside)
+    omega (arith, c.in-Some.ensures.inside)
 
 pub loop-i-smaller : goal.loop-i-smaller
 loop-i-smaller c =
-    let o = c.odd_char-n.ensures (omega arith) in
-    omega (arith, o.inside)
+    omega (arith, c.in-Some.ensures.forward, c.in-Some.ensures.inside)
 
 pub loop-i-preserved : goal.loop-i-preserved
 loop-i-preserved c =
-    let l = c in
-    let o = c.odd_char-n.ensures (omega arith) in
-    skipped (passes_on l.loop-i.invariant o.same (omega arith) o.inside) c.ascii_end-i-in-loop-i.ensures
+    let o = c.in-Some.ensures in
+    skipped (passes_on c.loop-i.invariant o.same (omega (arith, o.forward)) o.inside) c.ascii_end-i-in-Some.ensures
 
 pub returns : goal.returns
 returns c =

@@ -6,15 +6,7 @@ use Rattle.json_scan.proofs.Steps.{whole}
 use Rattle.json_scan.proofs.Wide.{second}
 use Rattle.json_scan.proofs.string.two_bytes.Goals as goal
 
-pub returns-then-text-at-lt2 : goal.returns-then-text-at-lt2
-returns-then-text-at-lt2 c =
-    λ h. absurd (omega arith)
-
 pub returns-then-is_tail : goal.returns-then-is_tail
 unfolding is_tail
 returns-then-is_tail c =
-    λ h. whole (second c.requires (omega arith) (sym c.is_tail.ensures ∙ c.if-is_tail.true))
-
-pub returns : goal.returns
-returns c =
-    λ h. absurd (omega arith)
+    whole (second c.requires (omega arith) (sym c.is_tail.ensures ∙ c.if-is_tail.true)) (omega arith)

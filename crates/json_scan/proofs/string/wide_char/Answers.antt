@@ -6,10 +6,6 @@ use Rattle.json_grammar.specs.String.{after, given, gather}
 use Rattle.json_scan.proofs.Wide.{opens}
 use Rattle.json_scan.proofs.string.wide_char.Goals as goal
 
-pub returns-then-text-at : goal.returns-then-text-at
-returns-then-text-at c =
-    λ h. absurd (omega arith)
-
 pub two_bytes-requires : goal.two_bytes-requires
 unfolding after given gather is_tail
 two_bytes-requires c =
@@ -44,7 +40,3 @@ pub four_bytes-requires-in-F4 : goal.four_bytes-requires-in-F4
 unfolding after given gather is_tail
 four_bytes-requires-in-F4 c =
     opens _ _ (omega arith) (sym c.lead_of.ensures ∙ c.in-F4.is) refl (λ b. (refl, refl)) λ b. refl
-
-pub returns-in_default : goal.returns-in_default
-returns-in_default c =
-    λ h. absurd (omega arith)

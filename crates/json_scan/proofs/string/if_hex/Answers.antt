@@ -1,7 +1,0 @@
--- To the next state where the test holds.
-
-use Rattle.json_scan.proofs.string.if_hex.Goals as goal
-
-pub returns : goal.returns
-returns c =
-    rw (c.go_if.ensures, c.is_hex.ensures)
