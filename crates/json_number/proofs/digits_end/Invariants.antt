@@ -1,5 +1,5 @@
 -- Each digit passed leads back to the same part, so the number ends where it ended.
-use Prim.Native.Nat.{◌-◌}
+use Prim.Native.Nat.{◌≤◌}
 use mathlib.Core.Path.{◌≡◌}
 use mathlib.Core.Bool.{true}
 use lib.ListN.{length}
@@ -10,7 +10,7 @@ use Rattle.json_grammar.proofs.Passes.{Passes}
 use Rattle.json_number.proofs.digits_end.Given as goal
 
 abbrev pub invariant-loop-i : goal.invariant-loop-i
-invariant-loop-i l = (n : InNumber) → takes_digits n ≡ true → Passes (number_stop n) (number_stop n) l.text l.at l.i
-
-abbrev pub decreases-loop-i : goal.decreases-loop-i
-decreases-loop-i l = length l.text - l.i
+invariant-loop-i l = record {
+  passed : (n : InNumber) → takes_digits n ≡ true → Passes (number_stop n) (number_stop n) l.text l.at l.i;
+  none : length l.text ≤ l.at → l.i ≡ l.at;
+}

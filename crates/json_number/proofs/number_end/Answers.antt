@@ -1,10 +1,10 @@
 use mathlib.Core.Path.{refl}
-use mathlib.Core.Bool.{true, false, false≢true}
+use mathlib.Core.Bool.{false≢true}
 use native.Mathlib.Omega.{arith}
-use Rattle.json_grammar.specs.Part.{past, torn, number_stop}
+use Rattle.json_grammar.specs.Part.{past, if_may_end, number_stop}
 use Rattle.json_grammar.specs.declared.number.InNumber.TheVariants.{Start, Whole}
 use Rattle.json_grammar.proofs.Passes.{passes_none, passes_one, answers_here, answers_end, skipped}
-use Rattle.json_number.proofs.Digits.{number_goes, number_ends, number_none, whole_passes}
+use Rattle.json_number.proofs.Digits.{number_goes, number_ends, number_none, over_at, whole_passes}
 use Rattle.json_number.proofs.number_end.Goals as goal
 use Rattle.json_number.proofs.number_end.Goals.{then-begins_whole+else-ends_whole, else-begins_whole}
 
@@ -14,10 +14,9 @@ overflow_add-at c =
 
 pub returns-then-ends_whole : goal.returns-then-ends_whole
 returns-then-ends_whole c =
-    let d = c in
     let e = c.ends_whole.ensures c.if-ends_whole.true in
-    let k = d.digits_end-i.ensures Whole refl in
-    (answers_here (whole_passes (d.begins_whole.ensures d.if-begins_whole.true) k) e.0 past (number_ends Whole _ true e.1 refl), omega arith, omega arith)
+    let k = c.digits_end-i.ensures Whole refl in
+    (answers_here (whole_passes (c.begins_whole.ensures c.if-begins_whole.true) k) e.0 past (number_ends Whole _ e.1), omega arith, omega arith)
 
 pub loop-i-init : goal.loop-i-init
 loop-i-init c =
@@ -31,25 +30,16 @@ loop-i-init c =
 
 pub loop-i-preserved : goal.loop-i-preserved
 loop-i-preserved c =
-    let l = c in
-    (skipped (passes_one l.loop-i.invariant.0 l.loop-i-test.true (number_goes _ _ (cc))) c.digits_skipped-i.ensures, λ e. (omega arith, omega arith))
+    (skipped (passes_one c.loop-i.invariant.0 c.loop-i-test.true (number_goes _ _ (cc))) c.digits_skipped-i.ensures, λ e. (omega arith, omega arith))
 
-pub returns-then-may_end : goal.returns-then-may_end
-returns-then-may_end c =
-    let l = c in
-    (answers_here l.loop-i.invariant.0 l.loop-i-test.true past (number_ends _ _ true (cc) (cc)), omega (arith, l.loop-i.invariant.1 (cc)), omega arith)
-
-pub returns-in-Over : goal.returns-in-Over
-returns-in-Over c =
-    let l = c in
-    (answers_here l.loop-i.invariant.0 l.loop-i-test.true torn (number_ends _ _ false (cc) (cc)), omega arith)
-
-pub returns-then-may_end-2 : goal.returns-then-may_end-2
-returns-then-may_end-2 c =
-    let l = c in
-    (answers_end l.loop-i.invariant.0 past l.loop-i-test.false (number_none _ true (cc)), omega (arith, l.loop-i.invariant.1 (cc)), omega arith)
+pub returns-in-None : goal.returns-in-None
+returns-in-None c =
+    let p = c.loop-i.invariant in
+    over_at _ _ _ _ c.over.result (answers_here p.0 c.loop-i-test.true (if_may_end c.loop-i.part) (number_ends _ _ (cc)))
+    (λ e. (p.1 e).0) c.over.ensures
 
 pub returns : goal.returns
 returns c =
-    let l = c in
-    (answers_end l.loop-i.invariant.0 torn l.loop-i-test.false (number_none _ false (cc)), omega arith)
+    let p = c.loop-i.invariant in
+    over_at _ _ _ _ c.over-2.result (answers_end p.0 (if_may_end c.loop-i.part) c.loop-i-test.false (number_none _))
+    (λ e. (p.1 e).1) c.over-2.ensures
