@@ -39,6 +39,6 @@ module _ {text : List ℕ} {at i n : ℕ} (c : Counted text at i n) where
   pub counted_end : at_end (drop i text) ≡ true → n ≡ count (elements_in text (drop at text))
   counted_end e = omega (arith, c.sum, none (length text - n) (drop i text) e)
 
-  pub counted_all : length text ≤ n → n ≡ count (elements_in text (drop at text))
+  pub counted_all : length text ≤ n → length text ≡ count (elements_in text (drop at text))
   unfolding elements_at
-  counted_all h = let z : length text - n ≡ 0 = omega arith in sym (c.sum ∙ rw z (omega arith))
+  counted_all h = let z : length text - n ≡ 0 = omega arith in sym (c.sum ∙ rw z (omega (arith, c.within)))

@@ -1,30 +1,57 @@
 -- What a byte does to a skip.
-use Prim.Native.Nat.{ℕ, zero, suc, ◌+◌, ◌-◌, ◌≤◌, ◌<◌}
+use Prim.Native.Nat.{ℕ, zero, suc, max, ◌+◌, ◌-◌, ◌≤◌, ◌<◌}
+use mathlib.Core.Logic.{◌⊎◌, inl, inr}
 use mathlib.Core.Path.{◌≡◌, refl, sym, ap, ◌∙◌}
 use mathlib.Core.List.{List, [], ◌∷◌, tail}
 use mathlib.Core.Bool.{Bool, true, false, ◌||◌, cond, false≢true}
-use lib.ListN.{drop}
-use lib.Dec.{eqb}
-use borrow.Author.Tests.{eq-eqb, ne_eqb, eqb-true}
+use lib.ListN.{drop, length, get_or, drop_of_length-le}
+use lib.Dec.{eqb, ltb}
+use mir.Val.{bool_byte}
+use borrow.Author.Tests.{eq-eqb, ne_eqb, eqb-true, lt-ltb, le-ltb}
+use native.Mathlib.Decide.{dec_lt}
 use native.Mathlib.Numerals.{add-one}
+use Rattle.std.proofs.Common.{add-zero}
+use Rattle.std.proofs.lemmas.List.{get_or_default}
 use native.Mathlib.Omega.{arith}
 use Rattle.json_grammar.specs.Rows.{choose}
 use Rattle.json_grammar.specs.Byte.{is_numeric, blanked}
 use Rattle.json_grammar.specs.Tree.{Place, Moves}
 use Rattle.json_move.specs.declared.Kind.{Kind}
-use Rattle.json_move.specs.Moving.{first_byte, kind_of, behind_string, behind_escape, opens, closes, behind_bracket, in_quotes, escaped, behind_number, behind_kind, behind_value, over_comma}
-use Rattle.json_grammar.proofs.Moves.{moves_as}
+use Rattle.json_move.specs.Moving.{first_byte, kind_of, behind_string, behind_escape, opens, closes, behind_bracket, in_quotes, escaped, behind_number, behind_kind, behind_value, over_comma, at_end}
+use Rattle.json_grammar.proofs.Moves.{Leads, byte_here, lead_start, lead_one, lead_end, moved, moves_as}
 
--- Strings: the closing quote, a backslash and any other byte.
+-- Over the byte here, where one is left.
+pub moves_byte : (text : List ℕ) (at n : ℕ) → n ≡ bool_byte (ltb at (length text)) → Moves tail text at (at + n)
+moves_byte text at n e = elim (dec_lt at (length text)) [
+  | yes h ↦ rw (e, lt-ltb at (length text) h) (moved (lead_one (lead_start tail text at) h λ s. refl))
+  | no h ↦ rw (e, le-ltb at (length text) (omega arith), add-zero at) (moved (lead_end (lead_start tail text at) (omega arith) refl))
+]
+
+-- Whether a list or an object ends by the byte here, or by the text's end.
+module _ (text : List ℕ) (at : ℕ) where
+  pub ends_by : (b : ℕ) → at < length text → b ≡ get_or text at b → closes b ≡ at_end (drop at text)
+  unfolding at_end
+  ends_by b h e = let g : get_or text at 0 ≡ b = sym (e ∙ get_or_default text at b 0 h) in rw (byte_here text at h, g)
+
+  pub ends_over : length text ≤ at → true ≡ at_end (drop at text)
+  unfolding at_end
+  ends_over h = rw (drop_of_length-le text h)
+
+-- Strings: the closing quote, a backslash with the byte behind it, and any other byte.
+over_escaped : (s : Place) → behind_string (tail s) ≡ behind_escape s
+unfolding behind_string
+over_escaped [] = refl
+over_escaped (b ∷ s) = refl
+
 module _ (b : ℕ) where
   pub string_closes : b ≡ 34 → (s : Place) → s ≡ behind_string (b ∷ s)
   unfolding behind_string
   string_closes e s = rw (eq-eqb b 34 e)
 
   module _ (n : b ≡ 34 → ⊥) where
-    pub string_escapes : b ≡ 92 → (s : Place) → behind_escape s ≡ behind_string (b ∷ s)
+    pub string_escapes : b ≡ 92 → (s : Place) → behind_string (tail s) ≡ behind_string (b ∷ s)
     unfolding behind_string
-    string_escapes e s = rw (ne_eqb b 34 n, eq-eqb b 92 e)
+    string_escapes e s = rw (ne_eqb b 34 n, eq-eqb b 92 e) (over_escaped s)
 
     pub string_goes : (b ≡ 92 → ⊥) → (s : Place) → behind_string s ≡ behind_string (b ∷ s)
     unfolding behind_string
@@ -33,14 +60,6 @@ module _ (b : ℕ) where
 pub string_over : [] ≡ behind_string []
 unfolding behind_string
 string_over = refl
-
-pub escape_over : behind_string [] ≡ behind_escape []
-unfolding behind_string
-escape_over = refl
-
-pub escape_goes : (b : ℕ) (s : Place) → behind_string s ≡ behind_escape (b ∷ s)
-unfolding behind_string
-escape_goes b s = refl
 
 -- A string inside a list is skipped as it is by itself.
 mutual
@@ -151,14 +170,22 @@ pub number_stops : (b : ℕ) → is_numeric b ≡ false → (s : Place) → b �
 unfolding behind_number
 number_stops b e s = rw e
 
-pub number_over : [] ≡ behind_number []
+number_over : [] ≡ behind_number []
 unfolding behind_number
 number_over = refl
 
--- A value is skipped as its kind is.
+-- the text is over, or the place was behind it from the start
+pub number_ends : {text : List ℕ} {at i : ℕ} → Leads behind_number behind_number text at i → length text ≤ i → Moves behind_number text at (max at (length text))
+number_ends {text} {at} {i} l h = let e : max at (length text) ≡ i = grind (arith, l.ahead, l.inside, l.outside) in rw e (moved (lead_end l h number_over))
+
+-- A value is skipped as its kind is, and two kinds alike.
 pub moves_value : (text : List ℕ) (at r : ℕ) (k : Kind) → kind_of (drop at text) ≡ k → Moves (behind_kind k) text at r → Moves behind_value text at r
 unfolding behind_value
 moves_value text at r k e m = moves_as m behind_value (ap (λ x. behind_kind x (drop at text)) (sym e))
+
+pub moves_either : (text : List ℕ) (at r : ℕ) (k l : Kind) → (kind_of (drop at text) ≡ k) ⊎ (kind_of (drop at text) ≡ l) → behind_kind k ≡ behind_kind l → Moves (behind_kind k) text at r → Moves behind_value text at r
+moves_either text at r k l (inl e) h m = moves_value text at r k e m
+moves_either text at r k l (inr e) h m = moves_value text at r l e (rw h at m)
 
 -- A comma.
 pub comma : (s : Place) → first_byte s ≡ 44 → blanked (tail s) ≡ over_comma s

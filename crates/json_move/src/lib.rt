@@ -11,7 +11,7 @@ ghost use Rattle.json_move.specs.Count.{count as count_of, elements_in};
 use json_scan::byte;
 
 // What a value is.
-#[derive(Clone, Copy)]
+#[derive(Clone, Copy, Debug, PartialEq, Eq)]
 pub enum Kind {
     Object,
     Array,
@@ -26,7 +26,7 @@ pub enum Kind {
 pub fn byte_at(text: &[u8], at: usize) -> u8
     ensures { result ≡ first_byte (drop at text.now) }
 {
-    if at < text.len() { text[at] } else { 0 }
+    text.get(at).copied().unwrap_or(0)
 }
 
 // What the value at a place is, by its first byte.
@@ -48,20 +48,14 @@ pub fn kind_at(text: &[u8], at: usize) -> Kind
 fn behind_byte(text: &[u8], at: usize) -> usize
     ensures { Moves tail text.now at result }
 {
-    if at < text.len() { at + 1 } else { at }
+    at + usize::from(at < text.len())
 }
 
 // The place behind so many bytes.
 fn behind_bytes(text: &[u8], at: usize, n: usize) -> usize
     ensures { Moves (drop n) text.now at result }
 {
-    if text.len() <= at {
-        return at;
-    }
-    if text.len() - at <= n {
-        return text.len();
-    }
-    at + n
+    at + n.min(text.len().saturating_sub(at))
 }
 
 // The place behind a string's closing quote, from a place inside it.
@@ -76,30 +70,24 @@ pub fn behind_string(text: &[u8], at: usize) -> usize
             return i;
         }
         if b == b'\\' {
-            if i < text.len() {
-                i += 1;
-            }
+            i = behind_byte(text, i);
         }
     }
     i
 }
 
+#[tactic(auto, unfolding(crate::specs::Moving::opens))]
 fn opens(b: u8) -> bool
     ensures { result ≡ opens_here b }
 {
-    (b == b'[') | (b == b'{')
+    matches!(b, b'[' | b'{')
 }
 
+#[tactic(auto, unfolding(crate::specs::Moving::closes))]
 fn closes(b: u8) -> bool
     ensures { result ≡ closes_here b }
 {
-    (b == b']') | (b == b'}')
-}
-
-fn one_if(test: bool) -> usize
-    ensures { result ≡ cond test 1 0 }
-{
-    if test { 1 } else { 0 }
+    matches!(b, b']' | b'}')
 }
 
 // The brackets that are open behind a byte, counted without a branch: in a list of all kinds in no order a processor would guess each wrong.
@@ -107,7 +95,7 @@ fn open_behind(b: u8, n: usize) -> usize
     requires { (0 < n) × (n < 0xFFFFFFFFFFFFFFFF) }
     ensures { result ≡ n + cond (opens_here b) 1 0 - cond (closes_here b) 1 0 }
 {
-    n + one_if(opens(b)) - one_if(closes(b))
+    n + usize::from(opens(b)) - usize::from(closes(b))
 }
 
 // The place behind the bracket that closes a list or an object, from a place inside it.
@@ -134,27 +122,19 @@ fn behind_bracket(text: &[u8], at: usize) -> usize
 fn is_numeric(b: u8) -> bool
     ensures { result ≡ is_numeric b }
 {
-    match b {
-        b'+' | b'-' => true,
-        b'.' | b'E' | b'e' => true,
-        b'0'..=b'9' => true,
-        _ => false,
-    }
+    matches!(b, b'+' | b'-' | b'.' | b'0'..=b'9' | b'E' | b'e')
 }
 
 // The place behind the number at `at`.
 pub fn behind_number(text: &[u8], at: usize) -> usize
     ensures { Moves behind_number text.now at result }
 {
-    let mut i = at;
-    while i < text.len() {
-        if is_numeric(text[i]) {
-            i += 1;
-        } else {
+    for i in at..text.len() {
+        if !is_numeric(text[i]) {
             return i;
         }
     }
-    i
+    at.max(text.len())
 }
 
 // The place behind the value at `at`.
@@ -162,13 +142,11 @@ pub fn behind_value(text: &[u8], at: usize) -> usize
     ensures { Moves behind_value text.now at result }
 {
     match kind_at(text, at) {
-        Kind::Object => behind_bracket(text, behind_byte(text, at)),
-        Kind::Array => behind_bracket(text, behind_byte(text, at)),
+        Kind::Object | Kind::Array => behind_bracket(text, behind_byte(text, at)),
         Kind::Text => behind_string(text, behind_byte(text, at)),
         Kind::Number => behind_number(text, at),
-        Kind::True => behind_bytes(text, at, 4),
+        Kind::True | Kind::Null => behind_bytes(text, at, 4),
         Kind::False => behind_bytes(text, at, 5),
-        Kind::Null => behind_bytes(text, at, 4),
     }
 }
 
@@ -214,10 +192,9 @@ pub fn value_of(text: &[u8], at: usize) -> usize
 pub fn at_end(text: &[u8], at: usize) -> bool
     ensures { result ≡ at_end (drop at text.now) }
 {
-    if at < text.len() {
-        closes(text[at])
-    } else {
-        true
+    match text.get(at) {
+        Some(b) => closes(*b),
+        None => true,
     }
 }
 
@@ -226,13 +203,11 @@ pub fn count(text: &[u8], at: usize) -> usize
     ensures { result ≡ count_of (elements_in text.now (drop at text.now)) }
 {
     let mut i = first_in(text, at);
-    let mut n: usize = 0;
-    while n < text.len() {
+    for n in 0..text.len() {
         if at_end(text, i) {
             return n;
         }
         i = next_after(text, i);
-        n += 1;
     }
-    n
+    text.len()
 }

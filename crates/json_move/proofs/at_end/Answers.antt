@@ -1,15 +1,13 @@
 -- Whether no element begins at a place.
-use lib.ListN.{drop_of_length-le}
-use Rattle.json_move.specs.Moving.{at_end}
-use Rattle.json_grammar.proofs.Moves.{byte_here}
+use mathlib.Core.Path.{◌∙◌}
+use Rattle.json_move.proofs.Skips.{ends_by, ends_over}
 use Rattle.json_move.proofs.at_end.Goals as goal
 
-pub returns-then-at-text : goal.returns-then-at-text
-unfolding at_end
-returns-then-at-text c =
-    rw (byte_here _ _ c.if-at-text.true) c.closes.ensures
+pub returns-in-Some : goal.returns-in-Some
+returns-in-Some c =
+    let h = c.in-Some.ensures.lookup in
+    c.closes.ensures ∙ ends_by _ _ _ h.3.0 h.1
 
-pub returns-else-at-text : goal.returns-else-at-text
-unfolding at_end
-returns-else-at-text c =
-    rw (drop_of_length-le _ c.if-at-text.false)
+pub returns-in-None : goal.returns-in-None
+returns-in-None c =
+    ends_over _ _ c.in-None.ensures.lookup.3

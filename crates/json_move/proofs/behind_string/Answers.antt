@@ -1,5 +1,7 @@
-use Rattle.json_grammar.proofs.Moves.{lead_start, lead_one, lead_end, moved}
-use Rattle.json_move.proofs.Skips.{string_closes, string_escapes, string_goes, string_over, escape_goes, escape_over}
+use Rattle.json_grammar.proofs.Moves.{lead_start, lead_one, lead_end, lead_past, moved}
+use Rattle.json_move.specs.Moving.{behind_string}
+use mathlib.Core.List.{tail}
+use Rattle.json_move.proofs.Skips.{string_closes, string_escapes, string_goes, string_over}
 use Rattle.json_move.proofs.behind_string.Goals as goal
 
 pub loop-i-init : goal.loop-i-init
@@ -11,15 +13,10 @@ returns-then-b-eq34 c =
     let l = c in
     moved (lead_one l.loop-i.invariant l.loop-i-test.true (string_closes _ c.if-b-eq34.true))
 
-pub loop-i-preserved-then-i-text : goal.loop-i-preserved-then-i-text
-loop-i-preserved-then-i-text c =
+pub loop-i-preserved-then-b-eq92 : goal.loop-i-preserved-then-b-eq92
+loop-i-preserved-then-b-eq92 c =
     let l = c in
-    lead_one (lead_one l.loop-i.invariant l.loop-i-test.true (string_escapes _ c.if-b-eq34.false c.if-b-eq92.true)) c.if-i-text.true (escape_goes _)
-
-pub loop-i-preserved-else-i-text : goal.loop-i-preserved-else-i-text
-loop-i-preserved-else-i-text c =
-    let l = c in
-    lead_end (lead_one l.loop-i.invariant l.loop-i-test.true (string_escapes _ c.if-b-eq34.false c.if-b-eq92.true)) c.if-i-text.false escape_over
+    lead_past behind_string tail (lead_one l.loop-i.invariant l.loop-i-test.true (string_escapes _ c.if-b-eq34.false c.if-b-eq92.true)) c.behind_byte-i.ensures
 
 pub loop-i-preserved : goal.loop-i-preserved
 loop-i-preserved c =

@@ -1,3 +1,4 @@
+use native.Mathlib.Omega.{arith}
 use Rattle.json_move.proofs.Counts.{counted_none, counted_more, counted_end, counted_all}
 use Rattle.json_move.proofs.count.Goals as goal
 
@@ -15,4 +16,4 @@ loop-n-preserved c =
 
 pub returns : goal.returns
 returns c =
-    counted_all c.loop-n.invariant c.loop-n-test.false
+    counted_all c.loop-n.invariant (omega arith)
