@@ -3,3 +3,4 @@ pub mod Ahead
 pub mod Lengths
 pub mod Ascii
 pub mod Runs
+pub mod Tables

@@ -10,8 +10,7 @@ use Rattle.json_grammar.specs.String.{chars, after, given, gather, is_ascii}
 use Rattle.json_grammar.specs.declared.string.InString.TheVariants.{Plain}
 use Rattle.json_scan.specs.Chars.{Char}
 use Rattle.json_scan.proofs.Strings.{ascii_lead}
-use Rattle.json_decode.specs.Characters.{bytes_of, plain_from, left, spot_at, behind_run, Run, GivesBytes}
-use Rattle.json_decode.specs.declared.Out.{Out}
+use Rattle.json_decode.specs.Characters.{plain_from, left, spot_at, behind_run, Run, GivesBytes}
 use Rattle.json_decode.specs.declared.Spot.{Spot}
 use Rattle.json_decode.specs.declared.NextBytes.{NextBytes}
 use Rattle.json_decode.proofs.Ascii.{ascii_from}
@@ -83,14 +82,6 @@ run_at {text} {i} s e r = record {
 }
 
 -- ---- an escape
-pub out_size : (o : Out) {bytes : List ℕ} → (bytes_of o ≡ bytes) × (o.n ≤ length o.bytes) → o.n ≡ length bytes
-out_size o e = sym (length-take-le o.n o.bytes e.1) ∙ ap length e.0
-
 pub gives_char : {text : List ℕ} {s : Spot} {n : ℕ} {bytes : List ℕ} → s.state ≡ Plain → Char text s.at n bytes → (r : NextBytes)
-    → (bytes_of r.out ≡ bytes) × (r.out.n ≤ length r.out.bytes) → 0 < length bytes
-    → left text r.spot ≡ plain_from text (s.at + n) → GivesBytes text s r
-gives_char {text} {s} e c r o p l = record {
-  bytes = rw (o.0, l) (left_any text s e ∙ char_from c);
-  few = o.1;
-  none = λ z. absurd (omega (arith, out_size r.out o));
-}
+    → r.out ≡ bytes → 0 < length bytes → left text r.spot ≡ plain_from text (s.at + n) → GivesBytes text s r
+gives_char {text} {s} e c r o p l = record { bytes = rw (o, l) (left_any text s e ∙ char_from c); some = rw o p }

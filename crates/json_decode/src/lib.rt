@@ -1,23 +1,20 @@
 // Strings of a walked text, decoded as they are gone through. No copy is made.
 #![tactic(auto)]
 
-ghost use Rattle.std.specs.Prelude.{◌≡◌, List, [], ◌∷◌, false, ℕ, ◌≤◌, length, drop};
+ghost use Rattle.std.specs.Prelude.{◌≡◌, List, [], ◌∷◌, ℕ, drop, MatchOption};
+ghost use Rattle.std.specs.Iterator.{YieldsFirst, item_count};
 ghost use Rattle.json_grammar.specs.Byte.{utf8};
 ghost use Rattle.json_grammar.specs.String.{one_more, gather, point, meant, given as given_by};
 ghost use Rattle.json_move.specs.Read.{decoded};
-ghost use Rattle.json_decode.specs.Characters.{bytes_of, plain_from, left, ahead, spot_at, behind_run};
-ghost use Rattle.json_decode.specs.Characters.{Steps, Run, GivesBytes, Sound, Gives};
+ghost use Rattle.json_decode.specs.Characters.{plain_from, left, ahead, spot_at, behind_run, Steps, Run, GivesBytes};
+
+mod up_to_four;
+
+pub use up_to_four::Out;
 
 use json_grammar::string::{CharStep, InString, Letter};
 use json_scan::escape::Escape;
 use json_scan::{byte, escape, string};
-
-// Up to four bytes: the first n of the array.
-#[derive(Clone, Copy)]
-pub struct Out {
-    pub n: usize,
-    pub bytes: [u8; 4],
-}
 
 // A place inside a string, with what may stand there, and the digits gathered of an escape.
 #[derive(Clone, Copy)]
@@ -27,25 +24,41 @@ pub struct Spot {
     pub v: u64,
 }
 
-#[derive(Clone, Copy)]
+// Bytes that were decoded, and the spot behind them.
+#[derive(Drop)]
 pub struct NextBytes {
     pub out: Out,
     pub spot: Spot,
 }
 
-// Bytes that were decoded, of which so many are given out, and the spot behind them.
-#[derive(Clone, Copy)]
-pub struct Cursor {
-    pub spot: Spot,
-    pub out: Out,
-    pub given: usize,
+// The bytes of a string one by one: those that were decoded, of which so many are given out, and the spot behind them.
+#[derive(Drop)]
+pub struct Cursor<'a> {
+    text: &'a [u8],
+    spot: Spot,
+    out: Out,
+    given: usize,
 }
 
-#[derive(Clone, Copy)]
-pub struct NextByte {
-    pub some: bool,
-    pub byte: u8,
-    pub cursor: Cursor,
+impl<'a> Iterator for Cursor<'a> {
+    type Item = u8;
+
+    ghost next_gives = { YieldsFirst ahead };
+
+    ghost remaining = { item_count ahead };
+
+    fn next(&mut self) -> Option<u8> {
+        if let Some(&byte) = self.out.as_slice().get(self.given) {
+            self.given += 1;
+            return Some(byte);
+        }
+        let next = next_bytes(self.text, self.spot)?;
+        let first = next.out.as_slice()[0];
+        self.spot = next.spot;
+        self.out = next.out;
+        self.given = 1;
+        Some(first)
+    }
 }
 
 // Seven digits are kept of v, so that no product wraps.
@@ -56,100 +69,41 @@ fn one_more(v: u64, b: u8) -> u64
 }
 
 // The digits gathered with this byte.
+#[tactic(auto, using(crate::proofs::Tables::gathers_nothing), unfolding(json_grammar::specs::String::gather))]
 fn gathered(state: InString, v: u64, b: u8) -> u64
     ensures { result ≡ gather state v b }
 {
     match state {
-        InString::Plain => 0,
-        InString::Escape => 0,
         InString::Unit => byte::digit_of(b),
-        InString::UnitD => one_more(v, b),
-        InString::Digit3 => one_more(v, b),
-        InString::Digit2 => one_more(v, b),
-        InString::Digit1 => 0,
-        InString::High2 => one_more(v, b),
-        InString::High1 => one_more(v, b),
-        InString::Slash => v,
-        InString::LetterU => v,
-        InString::SecondD => one_more(v, b),
-        InString::SecondC => one_more(v, b),
-        InString::Tail3 => 0,
-        InString::Tail2 => 0,
-        InString::Tail1 => 0,
-        InString::AfterE0 => 0,
-        InString::AfterEd => 0,
-        InString::AfterF0 => 0,
-        InString::AfterF4 => 0,
-    }
-}
-
-fn no_byte() -> Out
-    ensures { (bytes_of result ≡ []) × (result.n ≤ length result.bytes) }
-{
-    Out {
-        n: 0,
-        bytes: [0, 0, 0, 0],
-    }
-}
-
-fn one_byte(b: u8) -> Out
-    ensures { (bytes_of result ≡ b ∷ []) × (result.n ≤ length result.bytes) }
-{
-    Out {
-        n: 1,
-        bytes: [b, 0, 0, 0],
+        InString::UnitD | InString::Digit3 | InString::Digit2 => one_more(v, b),
+        InString::High2 | InString::High1 => one_more(v, b),
+        InString::SecondD | InString::SecondC => one_more(v, b),
+        InString::Slash | InString::LetterU => v,
+        _ => 0,
     }
 }
 
 // The bytes of a code point.
 pub fn utf8_of(c: u64) -> Out
-    ensures { (bytes_of result ≡ utf8 c) × (result.n ≤ length result.bytes) }
+    ensures { result ≡ utf8 c }
 {
     if c < 0x80 {
-        return Out {
-            n: 1,
-            bytes: [c as u8, 0, 0, 0],
-        };
+        return Out::one(c as u8);
     }
     let last = (0x80 + c % 64) as u8;
     if c < 0x800 {
-        return Out {
-            n: 2,
-            bytes: [(0xC0 + c / 64) as u8, last, 0, 0],
-        };
+        return Out::two((0xC0 + c / 64) as u8, last);
     }
     let third = (0x80 + c / 64 % 64) as u8;
     if c < 0x10000 {
-        return Out {
-            n: 3,
-            bytes: [(0xE0 + c / 4096) as u8, third, last, 0],
-        };
+        return Out::three((0xE0 + c / 4096) as u8, third, last);
     }
-    Out {
-        n: 4,
-        bytes: [
-            (0xF0 + c / 262144 % 8) as u8,
-            (0x80 + c / 4096 % 64) as u8,
-            third,
-            last,
-        ],
-    }
-}
-
-// How many they are.
-pub fn utf8_length(c: u64) -> usize
-    ensures { result ≡ length (utf8 c) }
-{
-    if c < 0x80 {
-        return 1;
-    }
-    if c < 0x800 {
-        return 2;
-    }
-    if c < 0x10000 {
-        return 3;
-    }
-    4
+    Out::four([
+        (0xF0 + c / 262144 % 8) as u8,
+        (0x80 + c / 4096 % 64) as u8,
+        third,
+        last,
+    ])
 }
 
 // The code point of the digits gathered, four of one or eight of a pair.
@@ -162,97 +116,54 @@ pub fn point_of(v: u64) -> u64
     0x10000 + v / 0x10000 % 0x400 * 0x400 + v % 0x400
 }
 
+#[tactic(auto, unfolding(json_grammar::specs::String::given))]
 fn plain_gives(b: u8) -> Out
-    ensures { (bytes_of result ≡ given_by InString.Plain 0 b) × (result.n ≤ length result.bytes) }
+    ensures { result ≡ given_by InString.Plain 0 b }
 {
-    if b == b'\\' {
-        return no_byte();
-    }
-    one_byte(b)
+    if b == b'\\' { Out::none() } else { Out::one(b) }
 }
 
 fn letter_gives(l: Letter) -> Out
-    ensures { (bytes_of result ≡ meant l) × (result.n ≤ length result.bytes) }
+    ensures { result ≡ meant l }
 {
     match l {
-        Letter::Means(m) => one_byte(m),
-        Letter::Unicode => no_byte(),
-        Letter::NoLetter => no_byte(),
+        Letter::Means(m) => Out::one(m),
+        Letter::Unicode => Out::none(),
+        Letter::NoLetter => Out::none(),
     }
 }
 
 // What this byte adds to the decoded string.
+#[tactic(auto, using(crate::proofs::Tables::gives_nothing), unfolding(json_grammar::specs::String::given))]
 fn char_gives(state: InString, v: u64, b: u8) -> Out
-    ensures { (bytes_of result ≡ given_by state v b) × (result.n ≤ length result.bytes) }
+    ensures { result ≡ given_by state v b }
 {
     match state {
         InString::Plain => plain_gives(b),
         InString::Escape => letter_gives(string::letter_of(b)),
-        InString::Unit => no_byte(),
-        InString::UnitD => no_byte(),
-        InString::Digit3 => no_byte(),
-        InString::Digit2 => no_byte(),
         InString::Digit1 => utf8_of(point_of(one_more(v, b))),
-        InString::High2 => no_byte(),
-        InString::High1 => no_byte(),
-        InString::Slash => no_byte(),
-        InString::LetterU => no_byte(),
-        InString::SecondD => no_byte(),
-        InString::SecondC => no_byte(),
-        InString::Tail3 => one_byte(b),
-        InString::Tail2 => one_byte(b),
-        InString::Tail1 => one_byte(b),
-        InString::AfterE0 => one_byte(b),
-        InString::AfterEd => one_byte(b),
-        InString::AfterF0 => one_byte(b),
-        InString::AfterF4 => one_byte(b),
+        InString::Tail3 | InString::Tail2 | InString::Tail1 => Out::one(b),
+        InString::AfterE0 | InString::AfterEd => Out::one(b),
+        InString::AfterF0 | InString::AfterF4 => Out::one(b),
+        _ => Out::none(),
     }
 }
 
-#[derive(Clone, Copy)]
-struct Stepped {
-    goes: bool,
-    out: Out,
-    state: InString,
-    v: u64,
-}
-
-fn no_step(state: InString) -> Stepped
-    ensures { (result.goes ≡ false) × (result.out.n ≤ length result.out.bytes) }
+// What the byte at a spot does, where the string does not end with it.
+fn step(text: &[u8], s: Spot) -> Option<NextBytes>
+    ensures { MatchOption result (left text.now s ≡ []) (Steps text.now s) }
 {
-    Stepped {
-        goes: false,
-        out: no_byte(),
-        state: state,
-        v: 0,
-    }
-}
-
-// What a byte does inside a string.
-fn step(state: InString, v: u64, b: u8) -> Stepped
-    ensures { Steps state v b result }
-{
-    match string::char_after(state, b) {
-        CharStep::Goes(next) => {
-            let out = char_gives(state, v, b);
-            Stepped {
-                goes: true,
-                out: out,
-                state: next,
-                v: gathered(state, v, b),
-            }
-        }
-        CharStep::Closes => no_step(state),
-        CharStep::Refuses => no_step(state),
-    }
-}
-
-fn over(s: Spot) -> NextBytes
-    ensures { (bytes_of result.out ≡ []) × (result.out.n ≤ length result.out.bytes) × (result.spot ≡ s) }
-{
-    NextBytes {
-        out: no_byte(),
-        spot: s,
+    let b = *text.get(s.at)?;
+    match string::char_after(s.state, b) {
+        CharStep::Goes(state) => Some(NextBytes {
+            out: char_gives(s.state, s.v, b),
+            spot: Spot {
+                at: s.at + 1,
+                state,
+                v: gathered(s.state, s.v, b),
+            },
+        }),
+        CharStep::Closes | CharStep::Refuses => None,
     }
 }
 
@@ -279,8 +190,7 @@ pub fn plain_end(text: &[u8], at: usize) -> usize
 pub fn run_end(text: &[u8], s: Spot) -> usize
     ensures { Run text.now s result }
 {
-    let state = s.state;
-    match state {
+    match s.state {
         InString::Plain => plain_end(text, s.at),
         _ => s.at,
     }
@@ -290,68 +200,49 @@ pub fn run_end(text: &[u8], s: Spot) -> usize
 pub fn behind_run(s: Spot, at: usize) -> Spot
     ensures { result ≡ behind_run s at }
 {
-    let state = s.state;
     Spot {
-        at: at,
-        state: state,
-        v: s.v,
+        at,
+        ..s
     }
 }
 
 // The next decoded bytes of a string, byte by byte.
-fn stepped_bytes(text: &[u8], s: Spot) -> NextBytes
-    ensures { GivesBytes text.now s result }
+fn stepped_bytes(text: &[u8], s: Spot) -> Option<NextBytes>
+    ensures { MatchOption result (left text.now s ≡ []) (GivesBytes text.now s) }
 {
-    let mut at = s.at;
-    let mut state = s.state;
-    let mut v = s.v;
-    while at < text.len() {
-        let went = step(state, v, text[at]);
-        if !went.goes {
-            return over(s);
+    let mut spot = s;
+    loop {
+        let next = step(text, spot)?;
+        if !next.out.as_slice().is_empty() {
+            return Some(next);
         }
-        at += 1;
-        state = went.state;
-        v = went.v;
-        let out = went.out;
-        if 0 < out.n {
-            return NextBytes {
-                out: out,
-                spot: Spot {
-                    at: at,
-                    state: state,
-                    v: v,
-                },
-            };
-        }
+        spot = next.spot;
     }
-    over(s)
 }
 
 // Those of the escape where a whole one stands.
-fn escaped_bytes(text: &[u8], s: Spot) -> NextBytes
+fn escaped_bytes(text: &[u8], s: Spot) -> Option<NextBytes>
     requires { s.state ≡ InString.Plain }
-    ensures { GivesBytes text.now s result }
+    ensures { MatchOption result (left text.now s ≡ []) (GivesBytes text.now s) }
 {
     match escape::escape_at(text, s.at) {
-        Escape::Letter(m) => NextBytes {
-            out: one_byte(m),
+        Escape::Letter(m) => Some(NextBytes {
+            out: Out::one(m),
             spot: spot_at(s.at + 2),
-        },
-        Escape::Digits(v, n) => NextBytes {
+        }),
+        Escape::Digits(v, n) => Some(NextBytes {
             out: utf8_of(point_of(v)),
             spot: spot_at(s.at + n),
-        },
+        }),
         Escape::None => stepped_bytes(text, s),
     }
 }
 
 // The next decoded bytes of a string, none where it ends.
-pub fn next_bytes(text: &[u8], s: Spot) -> NextBytes
-    ensures { GivesBytes text.now s result }
+pub fn next_bytes(text: &[u8], s: Spot) -> Option<NextBytes>
+    ensures { MatchOption result (left text.now s ≡ []) (GivesBytes text.now s) }
 {
-    let state = s.state;
-    match state {
+    match s.state {
         InString::Plain => escaped_bytes(text, s),
         _ => stepped_bytes(text, s),
     }
@@ -361,7 +252,7 @@ pub fn next_bytes(text: &[u8], s: Spot) -> NextBytes
 pub fn behind(text: &[u8], quote: usize) -> usize
     ensures { plain_from text.now result ≡ decoded (drop quote text.now) }
 {
-    if quote < text.len() { quote + 1 } else { quote }
+    quote + usize::from(quote < text.len())
 }
 
 // The spot where a character or the closing quote may stand.
@@ -369,85 +260,27 @@ pub fn spot_at(at: usize) -> Spot
     ensures { (text : List ℕ) → left text result ≡ plain_from text at }
 {
     Spot {
-        at: at,
+        at,
         state: InString::Plain,
         v: 0,
     }
 }
 
 // The cursor at such a spot.
-pub fn plain_at(at: usize) -> Cursor
-    ensures { ((text : List ℕ) → ahead text result ≡ plain_from text at) × Sound result }
+pub fn plain_at(text: &[u8], at: usize) -> Cursor<'_>
+    ensures { ahead result ≡ plain_from text.now at }
 {
     Cursor {
+        text,
         spot: spot_at(at),
-        out: no_byte(),
+        out: Out::none(),
         given: 0,
     }
 }
 
 // The cursor behind the opening quote at `quote`.
-pub fn start(text: &[u8], quote: usize) -> Cursor
-    ensures { (ahead text.now result ≡ decoded (drop quote text.now)) × Sound result }
+pub fn start(text: &[u8], quote: usize) -> Cursor<'_>
+    ensures { ahead result ≡ decoded (drop quote text.now) }
 {
-    plain_at(behind(text, quote))
-}
-
-fn nothing(c: Cursor) -> NextByte
-    ensures { (result.some ≡ false) × (result.cursor ≡ c) }
-{
-    NextByte {
-        some: false,
-        byte: 0,
-        cursor: c,
-    }
-}
-
-// The next byte that a cursor has to give.
-fn next_byte(text: &[u8], c: Cursor) -> NextByte
-    requires { Sound c }
-    ensures { Gives text.now c result }
-{
-    let spot = c.spot;
-    let out = c.out;
-    let given = c.given;
-    if given < out.n {
-        let bytes = out.bytes;
-        return NextByte {
-            some: true,
-            byte: bytes[given],
-            cursor: Cursor {
-                spot: spot,
-                out: out,
-                given: given + 1,
-            },
-        };
-    }
-    let next = next_bytes(text, spot);
-    let more = next.out;
-    if more.n == 0 {
-        return nothing(c);
-    }
-    let behind = next.spot;
-    let bytes = more.bytes;
-    NextByte {
-        some: true,
-        byte: bytes[0],
-        cursor: Cursor {
-            spot: behind,
-            out: more,
-            given: 1,
-        },
-    }
-}
-
-// The same for a cursor of whatever making: one that no string leads to has nothing to give.
-pub fn next(text: &[u8], c: Cursor) -> NextByte
-    ensures { Sound c → Gives text.now c result }
-{
-    let out = c.out;
-    if 4 < out.n {
-        return nothing(c);
-    }
-    next_byte(text, c)
+    plain_at(text, behind(text, quote))
 }

@@ -1,17 +1,17 @@
 use mathlib.Core.Path.{sym, ◌∙◌}
-use Rattle.json_decode.proofs.Ahead.{steps_on, steps_closes, steps_refuses}
+use Rattle.json_decode.proofs.Ahead.{left_over, left_ends, steps_on}
 use Rattle.json_decode.proofs.step.Goals as goal
+
+pub returns-in_err-b : goal.returns-in_err-b
+returns-in_err-b c =
+    rw c.from_residual.ensures (left_over _ c.args.s c.in_err-b.ensures.lookup.3)
 
 pub returns-in-Goes : goal.returns-in-Goes
 returns-in-Goes c =
-    let g = c in
-    let k = g in
-    steps_on _ _ _ g.char_gives-out.result (sym k.char_after.ensures ∙ k.in-Goes.is) g.char_gives-out.ensures.0 g.char_gives-out.ensures.1 c.gathered.ensures
+    let h = c.in_ok-b.ensures.lookup in
+    steps_on _ c.args.s h.3.0 _ h.1 _ _ (sym c.in-Goes.is ∙ c.char_after.ensures) c.char_gives.ensures (rw c.gathered.ensures)
 
 pub returns-in-Closes : goal.returns-in-Closes
 returns-in-Closes c =
-    steps_closes _ _ _ c.no_step.result c.no_step.ensures (sym c.char_after.ensures ∙ c.in-Closes.is)
-
-pub returns-in-Refuses : goal.returns-in-Refuses
-returns-in-Refuses c =
-    steps_refuses _ _ _ c.no_step-in-Refuses.result c.no_step-in-Refuses.ensures (sym c.char_after.ensures ∙ c.in-Refuses.is)
+    let h = c.in_ok-b.ensures.lookup in
+    left_ends _ c.args.s h.3.0 _ h.1 (rw c.char_after.ensures at c.in-Closes.is)
