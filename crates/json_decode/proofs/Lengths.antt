@@ -6,6 +6,7 @@ use mathlib.Core.Bool.{Bool, true, false, cond}
 use lib.ListN.{length, drop, length-append, length-drop}
 use lib.Dec.{eqb, ltb}
 use native.Mathlib.Omega.{arith}
+use Rattle.std.specs.Prelude.{Option, Some, None}
 use Rattle.json_grammar.specs.Rows.{look}
 use Rattle.json_grammar.specs.Byte.{is_hex, is_d, is_to_7, is_8_to_b, is_c_to_f, is_tail, within, utf8}
 use Rattle.json_grammar.specs.String.{chars, lead, letter, after_lead, after_letter, go_if, after, meant, one_more, point, given, gather}
@@ -13,7 +14,7 @@ use Rattle.json_move.specs.Read.{decoded}
 use Rattle.json_grammar.specs.declared.string.Lead.{Lead}
 use Rattle.json_grammar.specs.declared.string.Lead.TheVariants.{Control, Ascii, Quote, Backslash, Stray, Two, E0, Three, Ed, F0, Four, F4}
 use Rattle.json_grammar.specs.declared.string.Letter.{Letter}
-use Rattle.json_grammar.specs.declared.string.Letter.TheVariants.{Means, Unicode, NoLetter}
+use Rattle.json_grammar.specs.declared.string.Letter.TheVariants.{Means, Unicode}
 use Rattle.json_grammar.specs.declared.string.InString.{InString}
 use Rattle.json_grammar.specs.declared.string.InString.TheVariants.{Plain, Escape, Unit, UnitD, Digit3, Digit2, Digit1, High2, High1, Slash, LetterU, SecondD, SecondC, Tail3, Tail2, Tail1, AfterE0, AfterEd, AfterF0, AfterF4}
 use Rattle.json_grammar.specs.declared.string.CharStep.{CharStep}
@@ -67,10 +68,10 @@ lead_keeps F0 = refl
 lead_keeps Four = refl
 lead_keeps F4 = refl
 
-letter_keeps : (l : Letter) → length (meant l) + kept_at (after_letter l) ≤ 1
-letter_keeps (Means m) = omega arith
-letter_keeps Unicode = omega arith
-letter_keeps NoLetter = omega arith
+letter_keeps : (l : Option Letter) → length (meant l) + kept_at (after_letter l) ≤ 1
+letter_keeps (Some (Means m)) = omega arith
+letter_keeps (Some Unicode) = omega arith
+letter_keeps None = omega arith
 
 plain_short : (t : Bool) (b : ℕ) → length (cond t [] (b ∷ [])) ≤ 1
 plain_short true b = omega arith

@@ -1,7 +1,8 @@
 -- The states of a string in which a byte does what it does in no other.
-use Prim.Native.Nat.{ℕ}
+use Prim.Native.Nat.{ℕ, ◌+◌, ◌*◌, ◌%◌, ◌<◌}
 use mathlib.Core.Path.{◌≡◌, refl}
 use mathlib.Core.List.{[]}
+use native.Mathlib.Omega.{arith}
 use Rattle.json_grammar.specs.String.{gather, given}
 use Rattle.json_grammar.specs.declared.string.InString.{InString}
 use Rattle.json_grammar.specs.declared.string.InString.TheVariants.{Plain, Escape, Unit, UnitD, Digit3, Digit2, Digit1, High2, High1, Slash, LetterU, SecondD, SecondC, Tail3, Tail2, Tail1, AfterE0, AfterEd, AfterF0, AfterF4}
@@ -51,3 +52,6 @@ gives_nothing AfterE0 v b _ _ _ _ _ _ n _ _ _ = absurd (n refl)
 gives_nothing AfterEd v b _ _ _ _ _ _ _ n _ _ = absurd (n refl)
 gives_nothing AfterF0 v b _ _ _ _ _ _ _ _ n _ = absurd (n refl)
 gives_nothing AfterF4 v b _ _ _ _ _ _ _ _ _ n = absurd (n refl)
+
+pub seven_kept : (v d : ℕ) → d < 16 → v % 0x10000000 * 16 + d ≡ (v * 16 + d) % 0x100000000
+seven_kept v d h = omega arith

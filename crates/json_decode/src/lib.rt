@@ -10,11 +10,10 @@ ghost use Rattle.json_decode.specs.Characters.{plain_from, left, ahead, spot_at,
 
 mod up_to_four;
 
-pub use up_to_four::Out;
-
 use json_grammar::string::{CharStep, InString, Letter};
 use json_scan::escape::Escape;
 use json_scan::{byte, escape, string};
+pub use up_to_four::Out;
 
 // A place inside a string, with what may stand there, and the digits gathered of an escape.
 #[derive(Clone, Copy)]
@@ -62,6 +61,7 @@ impl<'a> Iterator for Cursor<'a> {
 }
 
 // Seven digits are kept of v, so that no product wraps.
+#[tactic(auto, using(crate::proofs::Tables::seven_kept), unfolding(json_grammar::specs::String::one_more))]
 fn one_more(v: u64, b: u8) -> u64
     ensures { result ≡ one_more v b }
 {
@@ -84,6 +84,7 @@ fn gathered(state: InString, v: u64, b: u8) -> u64
 }
 
 // The bytes of a code point.
+#[tactic(auto, using(std::proofs::lemmas::Bool::Decides::nat_tests), unfolding(json_grammar::specs::Byte::utf8, json_grammar::specs::Rows::look))]
 pub fn utf8_of(c: u64) -> Out
     ensures { result ≡ utf8 c }
 {
@@ -107,6 +108,7 @@ pub fn utf8_of(c: u64) -> Out
 }
 
 // The code point of the digits gathered, four of one or eight of a pair.
+#[tactic(auto, using(std::proofs::lemmas::Bool::Decides::nat_tests), unfolding(json_grammar::specs::String::point, json_grammar::specs::Rows::look))]
 pub fn point_of(v: u64) -> u64
     ensures { result ≡ point v }
 {
@@ -123,13 +125,12 @@ fn plain_gives(b: u8) -> Out
     if b == b'\\' { Out::none() } else { Out::one(b) }
 }
 
-fn letter_gives(l: Letter) -> Out
+fn letter_gives(l: Option<Letter>) -> Out
     ensures { result ≡ meant l }
 {
     match l {
-        Letter::Means(m) => Out::one(m),
-        Letter::Unicode => Out::none(),
-        Letter::NoLetter => Out::none(),
+        Some(Letter::Means(m)) => Out::one(m),
+        Some(Letter::Unicode) | None => Out::none(),
     }
 }
 
@@ -176,17 +177,17 @@ pub fn plain_end(text: &[u8], at: usize) -> usize
         if string::is_ascii(text[i]) {
             i += 1;
         } else {
-            let n = string::wide_char(text, i);
-            if n == 0 {
-                return i;
+            match string::wide_char(text, i) {
+                Some(n) => i += n,
+                None => return i,
             }
-            i += n;
         }
     }
     i
 }
 
 // The place up to which the decoded bytes from a spot on are those of the text.
+#[tactic(auto, using(crate::proofs::Runs::run_none, crate::proofs::Runs::run_at))]
 pub fn run_end(text: &[u8], s: Spot) -> usize
     ensures { Run text.now s result }
 {
@@ -200,10 +201,7 @@ pub fn run_end(text: &[u8], s: Spot) -> usize
 pub fn behind_run(s: Spot, at: usize) -> Spot
     ensures { result ≡ behind_run s at }
 {
-    Spot {
-        at,
-        ..s
-    }
+    Spot { at, ..s }
 }
 
 // The next decoded bytes of a string, byte by byte.
@@ -226,15 +224,15 @@ fn escaped_bytes(text: &[u8], s: Spot) -> Option<NextBytes>
     ensures { MatchOption result (left text.now s ≡ []) (GivesBytes text.now s) }
 {
     match escape::escape_at(text, s.at) {
-        Escape::Letter(m) => Some(NextBytes {
+        Some(Escape::Letter(m)) => Some(NextBytes {
             out: Out::one(m),
             spot: spot_at(s.at + 2),
         }),
-        Escape::Digits(v, n) => Some(NextBytes {
+        Some(Escape::Digits(v, n)) => Some(NextBytes {
             out: utf8_of(point_of(v)),
             spot: spot_at(s.at + n),
         }),
-        Escape::None => stepped_bytes(text, s),
+        None => stepped_bytes(text, s),
     }
 }
 
@@ -249,6 +247,7 @@ pub fn next_bytes(text: &[u8], s: Spot) -> Option<NextBytes>
 }
 
 // The place behind the opening quote at `quote`.
+#[tactic(auto, using(crate::proofs::Ahead::behind_quote))]
 pub fn behind(text: &[u8], quote: usize) -> usize
     ensures { plain_from text.now result ≡ decoded (drop quote text.now) }
 {
@@ -256,6 +255,7 @@ pub fn behind(text: &[u8], quote: usize) -> usize
 }
 
 // The spot where a character or the closing quote may stand.
+#[tactic(auto, using(crate::proofs::Ahead::left_plain))]
 pub fn spot_at(at: usize) -> Spot
     ensures { (text : List ℕ) → left text result ≡ plain_from text at }
 {
@@ -267,6 +267,7 @@ pub fn spot_at(at: usize) -> Spot
 }
 
 // The cursor at such a spot.
+#[tactic(auto, unfolding(crate::specs::Characters::ahead))]
 pub fn plain_at(text: &[u8], at: usize) -> Cursor<'_>
     ensures { ahead result ≡ plain_from text.now at }
 {

@@ -58,10 +58,7 @@ impl Out {
     pub fn four(bytes: [u8; 4]) -> Self
         ensures { result ≡ bytes }
     {
-        Out {
-            n: 4,
-            bytes,
-        }
+        Out { n: 4, bytes }
     }
 
     pub fn as_slice(&self) -> &[u8]

@@ -1,4 +1,3 @@
 -- What the proofs of several functions use.
-mod FirstByte
 pub mod Skips
 mod Counts

@@ -30,6 +30,7 @@ pub fn byte_at(text: &[u8], at: usize) -> u8
 }
 
 // What the value at a place is, by its first byte.
+#[tactic(auto, using(std::proofs::lemmas::Bool::Decides::nat_tests), unfolding(crate::specs::Moving::kind_of, json_grammar::specs::Rows::look))]
 pub fn kind_at(text: &[u8], at: usize) -> Kind
     ensures { result ≡ kind_of (drop at text.now) }
 {
@@ -45,6 +46,7 @@ pub fn kind_at(text: &[u8], at: usize) -> Kind
 }
 
 // The place behind the byte at `at`.
+#[tactic(auto, using(crate::proofs::Skips::moves_byte))]
 fn behind_byte(text: &[u8], at: usize) -> usize
     ensures { Moves tail text.now at result }
 {
@@ -119,6 +121,7 @@ fn behind_bracket(text: &[u8], at: usize) -> usize
     i
 }
 
+#[tactic(auto, using(std::proofs::lemmas::Bool::Decides::nat_tests), unfolding(json_grammar::specs::Byte::is_numeric, json_grammar::specs::Rows::look))]
 fn is_numeric(b: u8) -> bool
     ensures { result ≡ is_numeric b }
 {
@@ -151,6 +154,7 @@ pub fn behind_value(text: &[u8], at: usize) -> usize
 }
 
 // The first element or the first name's quote of the list or the object at `at`; or its closing bracket.
+#[tactic(auto, using(json_grammar::proofs::Moves::then_moves), unfolding(crate::specs::Moving::first_in))]
 pub fn first_in(text: &[u8], at: usize) -> usize
     ensures { Moves first_in text.now at result }
 {
@@ -167,6 +171,7 @@ fn over_comma(text: &[u8], at: usize) -> usize
 }
 
 // The element or the name's quote behind the value at `at`; or the closing bracket.
+#[tactic(auto, using(json_grammar::proofs::Moves::then_moves), unfolding(crate::specs::Moving::next_after))]
 pub fn next_after(text: &[u8], at: usize) -> usize
     ensures { Moves next_after text.now at result }
 {
@@ -182,6 +187,7 @@ pub fn behind_colon(text: &[u8], at: usize) -> usize
 }
 
 // The value of the member whose name's quote stands at `at`.
+#[tactic(auto, using(json_grammar::proofs::Moves::then_moves), unfolding(crate::specs::Moving::value_of))]
 pub fn value_of(text: &[u8], at: usize) -> usize
     ensures { Moves value_of text.now at result }
 {
@@ -189,6 +195,7 @@ pub fn value_of(text: &[u8], at: usize) -> usize
 }
 
 // Whether no element and no member begins at `at`.
+#[tactic(auto, using(crate::proofs::Skips::ends_by, crate::proofs::Skips::ends_over))]
 pub fn at_end(text: &[u8], at: usize) -> bool
     ensures { result ≡ at_end (drop at text.now) }
 {

@@ -10,25 +10,16 @@ loop-i-init c =
 
 pub loop-i-preserved-then-is_ascii : goal.loop-i-preserved-then-is_ascii
 loop-i-preserved-then-is_ascii c =
-    let l = c in
-    run_ascii l.loop-i.invariant l.loop-i-test.true (sym c.is_ascii.ensures ∙ c.if-is_ascii.true)
+    run_ascii c.loop-i.invariant c.loop-i-test.true (sym c.is_ascii.ensures ∙ c.if-is_ascii.true)
 
-pub returns-then-n-eq0 : goal.returns-then-n-eq0
-returns-then-n-eq0 c =
-    c.loop-i.invariant
-
-pub overflow_add-i-else-is_ascii : goal.overflow_add-i-else-is_ascii
-overflow_add-i-else-is_ascii c =
-    omega (arith, (c.wide_char-n.ensures (omega arith)).passes.inside)
+pub overflow_add-i-in-Some : goal.overflow_add-i-in-Some
+overflow_add-i-in-Some c =
+    omega (arith, c.in-Some.ensures.passes.inside)
 
 pub loop-i-smaller : goal.loop-i-smaller
 loop-i-smaller c =
-    omega (arith, (c.wide_char-n.ensures (omega arith)).passes.inside)
+    omega (arith, c.in-Some.ensures.passes.inside, c.in-Some.ensures.passes.forward)
 
 pub loop-i-preserved : goal.loop-i-preserved
 loop-i-preserved c =
-    run_char c.loop-i.invariant (c.wide_char-n.ensures (omega arith))
-
-pub returns : goal.returns
-returns c =
-    c.loop-i.invariant
+    run_char c.loop-i.invariant c.in-Some.ensures
