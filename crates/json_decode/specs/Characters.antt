@@ -1,10 +1,13 @@
 -- Strings of a walked text by their decoded bytes (`decoded` of Read.antt), given out as the escapes are undone.
-use Rattle.std.specs.Prelude.{ℕ, ◌+◌, ◌-◌, ◌<◌, ◌≤◌, ◌≡◌, List, ◌++◌, length, drop}
+use Rattle.std.specs.Prelude.{ℕ, ◌+◌, ◌-◌, ◌<◌, ◌≤◌, ◌≡◌, List, [], ◌++◌, length, drop, Option, MatchOption}
 use Rattle.std.proofs.Math.Seq.{slice}
 use Rattle.json_grammar.specs.String.{chars}
 use Rattle.json_grammar.specs.declared.string.InString.TheVariants.{Plain}
 use Rattle.json_decode.specs.declared.Spot.{Spot}
 use Rattle.json_decode.specs.declared.NextBytes.{NextBytes}
+use Rattle.json_decode.specs.declared.Piece.{Piece}
+use Rattle.json_decode.specs.declared.Piece.TheVariants.{Spelled, Decoded}
+use Rattle.json_decode.specs.declared.Pieces.{Pieces}
 use Rattle.json_decode.specs.declared.Cursor.{Cursor}
 
 -- The decoded bytes of a string from a place on where a character or the closing quote may stand.
@@ -40,7 +43,19 @@ pub record GivesBytes (text : List ℕ) (s : Spot) (r : NextBytes) : Type 0 wher
   pub bytes : left text s ≡ r.out ++ left text r.spot
   pub some : 0 < length r.out
 
+abbrev pub bytes_of : Piece → List ℕ
+bytes_of (Spelled bytes) = bytes.now
+bytes_of (Decoded out) = out
+
+-- The bytes that are left of a string.
+abbrev pub ahead : Pieces → List ℕ
+ahead p = left p.text.now p.spot
+
+-- The next piece, which is not empty, and what is left behind it; none where nothing is left.
+abbrev pub YieldsPiece : Pieces → Option Piece → Pieces → Type 0
+YieldsPiece p r q = MatchOption r ((ahead p ≡ []) × (ahead q ≡ [])) (λ x. (ahead p ≡ bytes_of x ++ ahead q) × (0 < length (bytes_of x)))
+
 -- What a cursor has still to give: bytes that were decoded, and the rest of the string.
-unfoldable pub ahead : Cursor → List ℕ
+unfoldable pub bytes_ahead : Cursor → List ℕ
 unfolding left
-ahead c = drop c.given c.out ++ left c.text.now c.spot
+bytes_ahead c = drop c.given c.out ++ left c.text.now c.spot

@@ -6,7 +6,7 @@ ghost use Rattle.std.specs.Iterator.{YieldsFirst, item_count};
 ghost use Rattle.json_grammar.specs.Byte.{utf8};
 ghost use Rattle.json_grammar.specs.String.{one_more, gather, point, meant, given as given_by};
 ghost use Rattle.json_move.specs.Read.{decoded};
-ghost use Rattle.json_decode.specs.Characters.{plain_from, left, ahead, spot_at, behind_run, Steps, Run, GivesBytes};
+ghost use Rattle.json_decode.specs.Characters.{plain_from, left, spot_at, behind_run, Steps, Run, GivesBytes, bytes_of, ahead, YieldsPiece, bytes_ahead};
 
 mod up_to_four;
 
@@ -30,6 +30,63 @@ pub struct NextBytes {
     pub spot: Spot,
 }
 
+// Bytes of a string: a run of the text's own, or some that were decoded.
+#[derive(Drop)]
+pub enum Piece<'a> {
+    Spelled(&'a [u8]),
+    Decoded(Out),
+}
+
+impl<'a> Piece<'a> {
+    pub fn as_slice(&self) -> &[u8]
+        ensures { result.now ≡ bytes_of self.now }
+    {
+        match self {
+            Piece::Spelled(bytes) => bytes,
+            Piece::Decoded(out) => out.as_slice(),
+        }
+    }
+}
+
+// The bytes of a string from a spot on, as many at once as stand there or are decoded together.
+#[derive(Clone, Copy, Drop)]
+pub struct Pieces<'a> {
+    text: &'a [u8],
+    spot: Spot,
+}
+
+impl<'a> Pieces<'a> {
+    // Those of the string whose quote stands at `quote`.
+    pub fn of(text: &'a [u8], quote: usize) -> Self
+        ensures { ahead result ≡ decoded (drop quote text.now) }
+    {
+        Pieces {
+            text,
+            spot: spot_at(behind(text, quote)),
+        }
+    }
+}
+
+impl<'a> Iterator for Pieces<'a> {
+    type Item = Piece<'a>;
+
+    ghost next_gives = { YieldsPiece };
+
+    ghost remaining = { item_count ahead };
+
+    fn next(&mut self) -> Option<Piece<'a>> {
+        let start = self.spot.at;
+        let end = run_end(self.text, self.spot);
+        if start < end {
+            self.spot = behind_run(self.spot, end);
+            return Some(Piece::Spelled(&self.text[start..end]));
+        }
+        let next = next_bytes(self.text, self.spot)?;
+        self.spot = next.spot;
+        Some(Piece::Decoded(next.out))
+    }
+}
+
 // The bytes of a string one by one: those that were decoded, of which so many are given out, and the spot behind them.
 #[derive(Drop)]
 pub struct Cursor<'a> {
@@ -42,9 +99,9 @@ pub struct Cursor<'a> {
 impl<'a> Iterator for Cursor<'a> {
     type Item = u8;
 
-    ghost next_gives = { YieldsFirst ahead };
+    ghost next_gives = { YieldsFirst bytes_ahead };
 
-    ghost remaining = { item_count ahead };
+    ghost remaining = { item_count bytes_ahead };
 
     fn next(&mut self) -> Option<u8> {
         if let Some(&byte) = self.out.as_slice().get(self.given) {
@@ -267,9 +324,9 @@ pub fn spot_at(at: usize) -> Spot
 }
 
 // The cursor at such a spot.
-#[tactic(auto, unfolding(crate::specs::Characters::ahead))]
+#[tactic(auto, unfolding(crate::specs::Characters::bytes_ahead))]
 pub fn plain_at(text: &[u8], at: usize) -> Cursor<'_>
-    ensures { ahead result ≡ plain_from text.now at }
+    ensures { bytes_ahead result ≡ plain_from text.now at }
 {
     Cursor {
         text,
@@ -281,7 +338,7 @@ pub fn plain_at(text: &[u8], at: usize) -> Cursor<'_>
 
 // The cursor behind the opening quote at `quote`.
 pub fn start(text: &[u8], quote: usize) -> Cursor<'_>
-    ensures { ahead result ≡ decoded (drop quote text.now) }
+    ensures { bytes_ahead result ≡ decoded (drop quote text.now) }
 {
     plain_at(text, behind(text, quote))
 }
