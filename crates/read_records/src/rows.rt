@@ -7,6 +7,7 @@ use document::table::RECORDS;
 use document::terms::Used;
 use read_fields::field::{Counted, Field, Found, Worded};
 use read_fields::four::Fours;
+use table_rows::Row;
 
 // An object was visited, or refused with the place.
 #[derive(Clone, Copy)]
@@ -45,7 +46,15 @@ pub fn store(
     ensures value { result ≡ Visit.Done used }
     ensures words_after { words.new ≡ written words.old i (words_of (used.records - i - 1) tag a b c d) }
 {
-    table_rows::put(words, i, tag, below(i, used), a, b, c, d);
+    let row = Row {
+        tag,
+        below: below(i, used),
+        a,
+        b,
+        c,
+        d,
+    };
+    table_rows::put(words, i, row);
     Visit::Done(used)
 }
 

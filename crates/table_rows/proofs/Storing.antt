@@ -2,6 +2,7 @@
 use Prim.Native.Nat.{ℕ, suc, ◌+◌, ◌*◌, ◌<◌, ◌≤◌}
 use mathlib.Core.Path.{◌≡◌, sym, ap, ◌∙◌}
 use mathlib.Core.List.{List, [], ◌++◌}
+use Rattle.std.proofs.Math.Logic.{◌⊎◌, inl, inr}
 use native.Mathlib.Omega.{arith}
 use borrow.Author.Tests.{eq-eqb, ne_eqb, le-leb, lt-leb}
 use lib.ListN.{length, set, take, drop, length-append}
@@ -16,13 +17,11 @@ pub six_stored : (l : List ℕ) (k at n₁ n₂ n₃ n₄ n₅ : ℕ) (w : Words
 six_stored l k at n₁ n₂ n₃ n₄ n₅ w e e₁ e₂ e₃ e₄ e₅ = cc
 
 module _ (before : List ℕ) (i : ℕ) (w : Words) where
-  pub other_words : (length before ≡ words_at_most → ⊥) → before ≡ written before i w
+  -- Where there is no place for it, nothing is stored.
+  pub not_stored : (length before ≡ words_at_most → ⊥) ⊎ (length before ≡ words_at_most × (64 ≤ i)) → before ≡ written before i w
   unfolding written
-  other_words n = rw (ne_eqb (length before) words_at_most n)
-
-  pub no_record : length before ≡ words_at_most → 64 ≤ i → before ≡ written before i w
-  unfolding written
-  no_record size full = rw (eq-eqb (length before) words_at_most size, le-leb 64 i full)
+  not_stored (inl other) = rw (ne_eqb (length before) words_at_most other)
+  not_stored (inr (size, full)) = rw (eq-eqb (length before) words_at_most size, le-leb 64 i full)
 
   pub stored : length before ≡ words_at_most → i < 64 → sets before (i * width) (row w []) ≡ written before i w
   unfolding written

@@ -1,25 +1,40 @@
 -- Which words stand at a record: its tag, the records below it and four values.
 use Rattle.std.specs.Prelude.{◌≡◌, List, [], ◌∷◌, ℕ, ◌+◌, ◌*◌, ◌≤◌, ◌<◌, get_or}
 use Rattle.document.specs.Words.{Words, width}
+use Rattle.table_rows.specs.declared.Column.{Column}
+use Rattle.table_rows.specs.declared.Column.TheVariants.{Tag, Below, A, B, C, D}
+
+-- A column's place among the words of a record.
+abbrev pub place : Column → ℕ
+place Tag = 0
+place Below = 1
+place A = 2
+place B = 3
+place C = 4
+place D = 5
+
+-- Record i's word at such a place, 0 where there are fewer.
+abbrev pub word_at : List ℕ → ℕ → ℕ → ℕ
+word_at ws i n = get_or ws (i * width + n) 0
 
 -- The words of record i, 0 where there are fewer.
 abbrev pub tag_at : List ℕ → ℕ → ℕ
 tag_at ws i = get_or ws (i * width) 0
 
 abbrev pub below_at : List ℕ → ℕ → ℕ
-below_at ws i = get_or ws (i * width + 1) 0
+below_at ws i = word_at ws i 1
 
 abbrev pub a_at : List ℕ → ℕ → ℕ
-a_at ws i = get_or ws (i * width + 2) 0
+a_at ws i = word_at ws i 2
 
 abbrev pub b_at : List ℕ → ℕ → ℕ
-b_at ws i = get_or ws (i * width + 3) 0
+b_at ws i = word_at ws i 3
 
 abbrev pub c_at : List ℕ → ℕ → ℕ
-c_at ws i = get_or ws (i * width + 4) 0
+c_at ws i = word_at ws i 4
 
 abbrev pub d_at : List ℕ → ℕ → ℕ
-d_at ws i = get_or ws (i * width + 5) 0
+d_at ws i = word_at ws i 5
 
 -- What is told of record i: its word, and 0 where i is none of the 64.
 pub record Tells (i word r : ℕ) : Type 0 where
