@@ -1,7 +1,8 @@
 -- Words that are checked are those of a value: dosages and timed dosages.
 use mathlib.Core.Path.{◌≡◌, refl, ap, sym}
 use mathlib.Core.List.{List, [], ◌∷◌}
-use mathlib.Core.Bool.{Bool, true, false, cond}
+use mathlib.Core.Bool.{Bool, true, false, cond, false≢true}
+use Rattle.std.specs.Prelude.{Some, None}
 use Prim.Native.Nat.{ℕ, ◌+◌}
 use native.Mathlib.Omega.{arith}
 use lib.Dec.{eqb}
@@ -18,6 +19,7 @@ use Rattle.document.specs.declared.table.Record.{Record}
 use Rattle.table_rows.proofs.Standing.{moved}
 use Rattle.table_rows.specs.Standing.{below_at, a_at, b_at, c_at, d_at, At, Lies}
 use Rattle.check_doses.proofs.DaySums.{days_are}
+use Rattle.check_doses.specs.Shapes.{week_shape, month_shape, time_shape, segment_shape}
 use Rattle.check_doses.specs.Doses.{DosageAt, simple, from_to, range, ApplicationsAt, none, more, PlainAt, dosage_only, times, segments, DaysAt, IntervalAt, TimedAt, plain, interval, week_days, days_of_month}
 use Rattle.json_grammar.proofs.Truth.{and_both}
 
@@ -64,21 +66,21 @@ module _ {ws : List ℕ} where
   unfolding valid_dosage
   dosage_is {i} (simple p) = record {
     value = P.simple (a_at ws i);
-    valid = and_both (lt-ltb 0 (a_at ws i) p.a_least) (le-leb (a_at ws i) 999999999999 p.a_most);
+    valid = and_both (lt-ltb 0 (a_at ws i) p.a.least) (le-leb (a_at ws i) 999999999999 p.a.most);
     at = record { inside = p.inside; tag = p.tag; below = omega arith; a = refl; b = omega arith; c = omega arith; d = omega arith };
   }
   dosage_is {i} (from_to q) = let p = q.row in record {
     value = P.from_to (a_at ws i) (b_at ws i) (c_at ws i) (d_at ws i);
-    valid = and_both (and_both (and_both (lt-ltb (a_at ws i) (b_at ws i) q.rises) (le-leb (b_at ws i) 999999999999 p.b_most)) (and_both (le-leb 1 (c_at ws i) p.c_least) (le-leb (c_at ws i) 7 p.c_most))) (and_both (le-leb 1 (d_at ws i) p.d_least) (le-leb (d_at ws i) 99999 p.d_most));
+    valid = and_both (and_both (and_both (lt-ltb (a_at ws i) (b_at ws i) q.rises) (le-leb (b_at ws i) 999999999999 p.b.most)) (and_both (le-leb 1 (c_at ws i) p.c.least) (le-leb (c_at ws i) 7 p.c.most))) (and_both (le-leb 1 (d_at ws i) p.d.least) (le-leb (d_at ws i) 99999 p.d.most));
     at = record { inside = p.inside; tag = p.tag; below = omega arith; a = refl; b = refl; c = refl; d = refl };
   }
   dosage_is {i} (range q) = let p = q.row in record {
     value = P.range (a_at ws i) (b_at ws i);
-    valid = and_both (and_both (lt-ltb 0 (a_at ws i) p.a_least) (lt-ltb (a_at ws i) (b_at ws i) q.rises)) (le-leb (b_at ws i) 999999999999 p.b_most);
+    valid = and_both (and_both (lt-ltb 0 (a_at ws i) p.a.least) (lt-ltb (a_at ws i) (b_at ws i) q.rises)) (le-leb (b_at ws i) 999999999999 p.b.most);
     at = record { inside = p.inside; tag = p.tag; below = omega arith; a = refl; b = refl; c = omega arith; d = omega arith };
   }
 
-  pub times_are : {end i : ℕ} → ApplicationsAt ws end 17 0 86399 i → TimesAre ws end i
+  pub times_are : {end i : ℕ} → ApplicationsAt ws end time_shape i → TimesAre ws end i
   times_are (none e) = record { value = []; valid = refl; lies = λ k l. moved ws (all_words k) (sym e) l; count = omega arith }
   times_are {end} {i} (more p q) =
       let r = times_are q in
@@ -87,12 +89,12 @@ module _ {ws : List ℕ} where
       let n : i + 2 ≡ i + 1 + 1 = omega arith in
       record {
         value = P.at_time d.value (a_at ws i) ∷ r.value;
-        valid = and_both (and_both d.valid (le-leb (a_at ws i) 86399 o.a_most)) r.valid;
+        valid = and_both (and_both d.valid (le-leb (a_at ws i) 86399 o.a.most)) r.valid;
         lies = λ k l. (record { inside = o.inside; tag = o.tag; below = omega arith; a = refl; b = omega arith; c = omega arith; d = omega arith }, (d.at, moved ws (all_words (times_rows r.value k)) n (r.lies k l)));
         count = omega (arith, r.count);
       }
 
-  pub segments_are : {end i : ℕ} → ApplicationsAt ws end 18 1 4 i → SegmentsAre ws end i
+  pub segments_are : {end i : ℕ} → ApplicationsAt ws end segment_shape i → SegmentsAre ws end i
   segments_are (none e) = record { value = []; valid = refl; lies = λ k l. moved ws (all_words k) (sym e) l; count = omega arith }
   segments_are {end} {i} (more p q) =
       let r = segments_are q in
@@ -101,7 +103,7 @@ module _ {ws : List ℕ} where
       let n : i + 2 ≡ i + 1 + 1 = omega arith in
       record {
         value = P.in_segment d.value (a_at ws i) ∷ r.value;
-        valid = and_both (and_both d.valid (and_both (le-leb 1 (a_at ws i) o.a_least) (le-leb (a_at ws i) 4 o.a_most))) r.valid;
+        valid = and_both (and_both d.valid (and_both (le-leb 1 (a_at ws i) o.a.least) (le-leb (a_at ws i) 4 o.a.most))) r.valid;
         lies = λ k l. (record { inside = o.inside; tag = o.tag; below = omega arith; a = refl; b = omega arith; c = omega arith; d = omega arith }, (d.at, moved ws (all_words (segments_rows r.value k)) n (r.lies k l)));
         count = omega (arith, r.count);
       }
@@ -147,16 +149,16 @@ module _ {ws : List ℕ} where
       let n : i + 2 ≡ i + 1 + 1 = omega arith in
       record {
         value = P.interval d.value (a_at ws i) (b_at ws i);
-        valid = and_both (and_both (and_both e d.valid) (and_both (le-leb 1 (a_at ws i) o.a_least) (le-leb (a_at ws i) 99999 o.a_most))) (and_both (le-leb 1 (b_at ws i) o.b_least) (le-leb (b_at ws i) 7 o.b_most));
+        valid = and_both (and_both (and_both e d.valid) (and_both (le-leb 1 (a_at ws i) o.a.least) (le-leb (a_at ws i) 99999 o.a.most))) (and_both (le-leb 1 (b_at ws i) o.b.least) (le-leb (b_at ws i) 7 o.b.most));
         lies = λ k l. (record { inside = o.inside; tag = o.tag; below = omega arith; a = refl; b = refl; c = omega arith; d = omega arith }, (d.at, moved ws (all_words k) n l));
         count = omega arith;
       }
 
-  week_days_are : {i : ℕ} (ts : List ℕ) → among 4 ts ≡ true → DaysAt ws i 9 127 → TimedIs ws i ts
+  week_days_are : {i : ℕ} (ts : List ℕ) → among 4 ts ≡ true → DaysAt ws i week_shape → TimedIs ws i ts
   unfolding valid_timed timed_rows
   week_days_are {i} ts e p =
       let t = plain_is under_days refl refl refl p.inner in
-      let s = days_are 7 (a_at ws i) p.row.a_least (omega (arith, p.row.a_most)) in
+      let s = days_are 7 (a_at ws i) p.row.a.least (omega (arith, p.row.a.most)) in
       let o = p.row in
       let n : i + (1 + timed_records t.value) ≡ i + 1 + timed_records t.value = omega arith in
       record {
@@ -166,11 +168,11 @@ module _ {ws : List ℕ} where
         count = omega (arith, p.nested, t.count);
       }
 
-  month_days_are : {i : ℕ} (ts : List ℕ) → among 5 ts ≡ true → DaysAt ws i 10 268435455 → TimedIs ws i ts
+  month_days_are : {i : ℕ} (ts : List ℕ) → among 5 ts ≡ true → DaysAt ws i month_shape → TimedIs ws i ts
   unfolding valid_timed timed_rows
   month_days_are {i} ts e p =
       let t = plain_is under_days refl refl refl p.inner in
-      let s = days_are 28 (a_at ws i) p.row.a_least (omega (arith, p.row.a_most)) in
+      let s = days_are 28 (a_at ws i) p.row.a.least (omega (arith, p.row.a.most)) in
       let o = p.row in
       let n : i + (1 + timed_records t.value) ≡ i + 1 + timed_records t.value = omega arith in
       record {
@@ -180,14 +182,14 @@ module _ {ws : List ℕ} where
         count = omega (arith, p.nested, t.count);
       }
 
-  pub single_is : {i : ℕ} → TimedAt ws i 0 → TimedIs ws i under_single
+  pub single_is : {i : ℕ} → TimedAt ws i None → TimedIs ws i under_single
   single_is (plain p) = plain_is under_single refl refl refl p
-  single_is (interval e p) = absurd (omega arith)
-  single_is (week_days e p) = absurd (omega arith)
-  single_is (days_of_month e p) = absurd (omega arith)
+  single_is (interval e p) = absurd (false≢true e)
+  single_is (week_days e p) = absurd (cc)
+  single_is (days_of_month e p) = absurd (cc)
 
-  pub cyclic_is : {i unit : ℕ} → TimedAt ws i unit → TimedIs ws i (under_cyclic unit)
+  pub cyclic_is : {i unit : ℕ} → TimedAt ws i (Some unit) → TimedIs ws i (under_cyclic unit)
   cyclic_is {i} {unit} (plain p) = plain_is (under_cyclic unit) (under unit).0 (under unit).1.0 (under unit).1.1.0 p
   cyclic_is {i} {unit} (interval e p) = interval_is (under_cyclic unit) (under unit).1.1.1 p
-  cyclic_is {i} {unit} (week_days e p) = week_days_are (under_cyclic unit) (ap (λ u. among 4 (under_cyclic u)) e) p
-  cyclic_is {i} {unit} (days_of_month e p) = month_days_are (under_cyclic unit) (ap (λ u. among 5 (under_cyclic u)) e) p
+  cyclic_is {i} {unit} (week_days e p) = week_days_are (under_cyclic unit) (let n : unit ≡ 5 = cc in ap (λ u. among 4 (under_cyclic u)) n) p
+  cyclic_is {i} {unit} (days_of_month e p) = month_days_are (under_cyclic unit) (let n : unit ≡ 6 = cc in ap (λ u. among 5 (under_cyclic u)) n) p

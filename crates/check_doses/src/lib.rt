@@ -1,182 +1,88 @@
 // Whether words lay out a detail without strings: its doses, their times and their days (document 01, "Objects" and "The table").
 #![tactic(auto)]
 
+mod records;
+
 ghost use Rattle.std.specs.Prelude.{◌<◌, ◌≤◌};
-ghost use Rattle.document.specs.Words.{words_at_most};
-ghost use Rattle.check_doses.specs.Doses.{Decides, Within, Row, Rising, DosageAt, ApplicationAt, ApplicationsAt, ListedAt, PlainAt, Nested, DaysAt, IntervalAt, TimedAt, SingleAt, CyclicAt, StillAt};
+ghost use Rattle.check_doses.specs.Shapes.{Decides, Row};
+ghost use Rattle.check_doses.specs.Doses.{Rising, DosageAt, ApplicationAt, ApplicationsAt, ListedAt, PlainAt, Nested, DaysAt, IntervalAt, TimedAt, SingleAt, CyclicAt, StillAt};
 
 use document::table::{RECORDS, WIDTH, WORDS};
+use records::{
+    AT_TIME, CYCLIC, DAILY, DAY_SEGMENTS, DAYS_OF_MONTH, DOSAGE_ONLY, FROM_TO, IN_SEGMENT,
+    INTERVAL, RANGE, SIMPLE, SINGLE, TIMES, WEEK_DAYS,
+};
+pub use records::{BLANK, Bounds, INTEGER, NOTHING, SOME_BELOW, Shape, UNIT};
 
-pub const MOST_BELOW: u64 = 63;
-
-const MOST_AMOUNT: u64 = 999999999999;
-
-pub const MOST_INTEGER: u64 = 99999;
-
-// Whether the word there lies from a least to a greatest number.
-fn within(words: &[u64; WORDS], at: usize, least: u64, most: u64) -> bool
-    requires { at < words_at_most }
-    ensures { Decides (Within words.now at least most) result }
-{
-    let w = words[at];
-    if w < least {
-        return false;
-    }
-    w <= most
-}
-
-// A record at i with this tag: its records below and its four values each from a least to a greatest number.
-pub fn row(
-    words: &[u64; WORDS],
-    i: usize,
-    tag: u64,
-    n0: u64,
-    n1: u64,
-    a0: u64,
-    a1: u64,
-    b0: u64,
-    b1: u64,
-    c0: u64,
-    c1: u64,
-    d0: u64,
-    d1: u64,
-) -> bool
-    ensures { Decides (Row words.now i tag n0 n1 a0 a1 b0 b1 c0 c1 d0 d1) result }
+// A record of this shape at i.
+pub fn row(words: &[u64; WORDS], i: usize, shape: Shape) -> bool
+    ensures { Decides (Row words.now i shape) result }
 {
     if RECORDS <= i {
         return false;
     }
     let at = i * WIDTH;
-    if !within(words, at, tag, tag) {
-        return false;
-    }
-    if !within(words, at + 1, n0, n1) {
-        return false;
-    }
-    if !within(words, at + 2, a0, a1) {
-        return false;
-    }
-    if !within(words, at + 3, b0, b1) {
-        return false;
-    }
-    if !within(words, at + 4, c0, c1) {
-        return false;
-    }
-    within(words, at + 5, d0, d1)
+    words[at] == shape.tag
+        && shape.below.hold(words[at + 1])
+        && shape.a.hold(words[at + 2])
+        && shape.b.hold(words[at + 3])
+        && shape.c.hold(words[at + 4])
+        && shape.d.hold(words[at + 5])
 }
 
 // A dosage from a least to a greatest amount, at i.
-fn rising(
-    words: &[u64; WORDS],
-    i: usize,
-    tag: u64,
-    a0: u64,
-    c0: u64,
-    c1: u64,
-    d0: u64,
-    d1: u64,
-) -> bool
-    ensures { Decides (Rising words.now i tag a0 c0 c1 d0 d1) result }
+fn rising(words: &[u64; WORDS], i: usize, shape: Shape) -> bool
+    ensures { Decides (Rising words.now i shape) result }
 {
-    if row(
-        words,
-        i,
-        tag,
-        0,
-        0,
-        a0,
-        MOST_AMOUNT,
-        0,
-        MOST_AMOUNT,
-        c0,
-        c1,
-        d0,
-        d1,
-    ) {
-        if table_rows::a(words, i) < table_rows::b(words, i) {
-            return true;
-        }
-        return false;
-    }
-    false
+    row(words, i, shape) && table_rows::a(words, i) < table_rows::b(words, i)
 }
 
 fn dosage(words: &[u64; WORDS], i: usize) -> bool
     ensures { Decides (DosageAt words.now i) result }
 {
-    if row(words, i, 12, 0, 0, 1, MOST_AMOUNT, 0, 0, 0, 0, 0, 0) {
-        return true;
-    }
-    if rising(words, i, 13, 0, 1, 7, 1, MOST_INTEGER) {
-        return true;
-    }
-    if rising(words, i, 14, 1, 0, 0, 0, 0) {
-        return true;
-    }
-    false
+    row(words, i, SIMPLE) || rising(words, i, FROM_TO) || rising(words, i, RANGE)
 }
 
-// A record at i with one value and its dosage behind it.
-fn application(words: &[u64; WORDS], i: usize, tag: u64, least: u64, most: u64) -> bool
-    ensures { Decides (ApplicationAt words.now i tag least most) result }
+// A record of this shape at i, and its dosage behind it.
+fn application(words: &[u64; WORDS], i: usize, shape: Shape) -> bool
+    ensures { Decides (ApplicationAt words.now i shape) result }
 {
-    if row(words, i, tag, 1, 1, least, most, 0, 0, 0, 0, 0, 0) {
-        if dosage(words, i + 1) {
-            return true;
-        }
-        return false;
-    }
-    false
+    row(words, i, shape) && dosage(words, i + 1)
 }
 
 // The applications from i on, up to record `end`.
-fn applications(words: &[u64; WORDS], i: usize, end: usize, tag: u64, least: u64, most: u64) -> bool
-    requires { end ≤ 128 }
-    ensures { Decides (ApplicationsAt words.now end tag least most i) result }
+fn applications(words: &[u64; WORDS], i: usize, end: usize, each: Shape) -> bool
+    ensures { Decides (ApplicationsAt words.now end each i) result }
 {
     let mut at = i;
     while at < end {
-        if application(words, at, tag, least, most) {
-            at += 2;
-        } else {
+        if !application(words, at, each) {
             return false;
         }
+        at += 2;
     }
-    if at == end {
-        return true;
-    }
-    false
+    at == end
 }
 
-fn listed(words: &[u64; WORDS], i: usize, own: u64, tag: u64, least: u64, most: u64) -> bool
-    ensures { Decides (ListedAt words.now i own tag least most) result }
+fn listed(words: &[u64; WORDS], i: usize, own: Shape, each: Shape) -> bool
+    requires { own.below.most ≤ 63 }
+    ensures { Decides (ListedAt words.now i own each) result }
 {
-    if row(words, i, own, 0, MOST_BELOW, 0, 0, 0, 0, 0, 0, 0, 0) {
-        let first = i + 1;
-        let n = table_rows::below(words, i);
-        let end = first + n;
-        if applications(words, first, end, tag, least, most) {
-            return true;
-        }
+    if !row(words, i, own) {
         return false;
     }
-    false
+    let first = i + 1;
+    let n = table_rows::below(words, i);
+    applications(words, first, first + n, each)
 }
 
 // A timed dosage of type 1, 2 or 3 at i.
 fn plain(words: &[u64; WORDS], i: usize) -> bool
     ensures { Decides (PlainAt words.now i) result }
 {
-    if application(words, i, 6, 0, 0) {
-        return true;
-    }
-    if listed(words, i, 7, 17, 0, 86399) {
-        return true;
-    }
-    if listed(words, i, 8, 18, 1, 4) {
-        return true;
-    }
-    false
+    application(words, i, DOSAGE_ONLY)
+        || listed(words, i, TIMES, AT_TIME)
+        || listed(words, i, DAY_SEGMENTS, IN_SEGMENT)
 }
 
 // The records below record i are those of the one behind it.
@@ -187,142 +93,47 @@ pub fn nested(words: &[u64; WORDS], i: usize) -> bool
         return false;
     }
     let n = table_rows::below(words, i);
-    if n == 0 {
-        return false;
-    }
-    if table_rows::below(words, i + 1) == n - 1 {
-        return true;
-    }
-    false
+    0 < n && table_rows::below(words, i + 1) == n - 1
 }
 
 // A set of days, not empty, and a timed dosage.
-fn days(words: &[u64; WORDS], i: usize, tag: u64, most: u64) -> bool
-    ensures { Decides (DaysAt words.now i tag most) result }
+fn days(words: &[u64; WORDS], i: usize, shape: Shape) -> bool
+    ensures { Decides (DaysAt words.now i shape) result }
 {
-    if row(words, i, tag, 1, MOST_BELOW, 1, most, 0, 0, 0, 0, 0, 0) {
-        if plain(words, i + 1) {
-            if nested(words, i) {
-                return true;
-            }
-            return false;
-        }
-        return false;
-    }
-    false
+    row(words, i, shape) && plain(words, i + 1) && nested(words, i)
 }
 
 fn interval(words: &[u64; WORDS], i: usize) -> bool
     ensures { Decides (IntervalAt words.now i) result }
 {
-    if row(words, i, 11, 1, 1, 1, MOST_INTEGER, 1, 7, 0, 0, 0, 0) {
-        if dosage(words, i + 1) {
-            return true;
-        }
-        return false;
-    }
-    false
+    row(words, i, INTERVAL) && dosage(words, i + 1)
 }
 
-// A timed dosage at i, under a parent: 0 for Single, else Cyclic's unit.
-fn timed(words: &[u64; WORDS], i: usize, parent: u64) -> bool
-    ensures { Decides (TimedAt words.now i parent) result }
+// A timed dosage at i, under a Cyclic of this unit, or under a Single.
+fn timed(words: &[u64; WORDS], i: usize, unit: Option<u64>) -> bool
+    ensures { Decides (TimedAt words.now i unit) result }
 {
-    if plain(words, i) {
-        return true;
-    }
-    if parent < 1 {
-        return false;
-    }
-    if interval(words, i) {
-        return true;
-    }
-    if parent == 5 {
-        if days(words, i, 9, 127) {
-            return true;
-        }
-        return false;
-    }
-    if parent == 6 {
-        if days(words, i, 10, 268435455) {
-            return true;
-        }
-        return false;
-    }
-    false
+    plain(words, i)
+        || unit.is_some() && interval(words, i)
+        || unit == Some(5) && days(words, i, WEEK_DAYS)
+        || unit == Some(6) && days(words, i, DAYS_OF_MONTH)
 }
 
 fn single(words: &[u64; WORDS], i: usize) -> bool
     ensures { Decides (SingleAt words.now i) result }
 {
-    if row(words, i, 3, 1, MOST_BELOW, 0, 0, 0, 0, 0, 0, 0, 0) {
-        if timed(words, i + 1, 0) {
-            if nested(words, i) {
-                return true;
-            }
-            return false;
-        }
-        return false;
-    }
-    false
+    row(words, i, SINGLE) && timed(words, i + 1, None) && nested(words, i)
 }
 
 fn cyclic(words: &[u64; WORDS], i: usize) -> bool
     ensures { Decides (CyclicAt words.now i) result }
 {
-    if row(
-        words,
-        i,
-        4,
-        1,
-        MOST_BELOW,
-        1,
-        7,
-        1,
-        MOST_INTEGER,
-        1,
-        MOST_INTEGER,
-        0,
-        0,
-    ) {
-        let unit = table_rows::a(words, i);
-        if timed(words, i + 1, unit) {
-            if nested(words, i) {
-                return true;
-            }
-            return false;
-        }
-        return false;
-    }
-    false
+    row(words, i, CYCLIC) && timed(words, i + 1, Some(table_rows::a(words, i))) && nested(words, i)
 }
 
 // A detail without strings.
 pub fn still(words: &[u64; WORDS], i: usize) -> bool
     ensures { Decides (StillAt words.now i) result }
 {
-    if row(
-        words,
-        i,
-        1,
-        0,
-        0,
-        0,
-        MOST_AMOUNT,
-        0,
-        MOST_AMOUNT,
-        0,
-        MOST_AMOUNT,
-        0,
-        MOST_AMOUNT,
-    ) {
-        return true;
-    }
-    if single(words, i) {
-        return true;
-    }
-    if cyclic(words, i) {
-        return true;
-    }
-    false
+    row(words, i, DAILY) || single(words, i) || cyclic(words, i)
 }

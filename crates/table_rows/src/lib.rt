@@ -8,7 +8,7 @@ ghost use Rattle.table_rows.specs.Storing.{of_row, written};
 use document::table::{RECORDS, WIDTH, WORDS};
 
 // What is stored of a record.
-#[derive(Clone, Copy, PartialEq, Eq)]
+#[derive(Clone, Copy)]
 pub struct Row {
     pub tag: u64,
     pub below: usize,
@@ -19,7 +19,7 @@ pub struct Row {
 }
 
 // One of the six words of a record.
-#[derive(Clone, Copy, PartialEq, Eq)]
+#[derive(Clone, Copy)]
 enum Column {
     Tag,
     Below,
