@@ -1,3 +1,2 @@
 pub mod ByWords
-pub mod Laid
 pub mod Laying

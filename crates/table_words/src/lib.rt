@@ -2,182 +2,135 @@
 #![tactic(auto)]
 
 ghost use Rattle.std.specs.Prelude.{◌≡◌, List, ◌≤◌, length};
-ghost use Rattle.document.specs.Words.{words_at_most, dosage_words, kind_words, all_words, rows};
+ghost use Rattle.document.specs.Words.{words, words_at_most, dosage_words, kind_words, all_words, rows};
 ghost use Rattle.document.specs.declared.table.Record.{Record};
 ghost use Rattle.table_kinds.specs.Kinds.{records_in};
-ghost use Rattle.table_words.specs.Laid.{over};
+ghost use Rattle.table_rows.specs.Storing.{of_row};
 ghost use Rattle.table_words.specs.Laying.{Upto, Makes, Unused};
 
-use document::table::{Dosage, Kind, RECORDS, Record, Table, WIDTH, WORDS};
+use document::table::{Dosage, Kind, RECORDS, Table, WIDTH, WORDS};
+use table_rows::Row;
 
-#[derive(Clone, Copy)]
-pub struct Words {
-    pub tag: u64,
-    pub a: u64,
-    pub b: u64,
-    pub c: u64,
-    pub d: u64,
-}
+// The words of a record that is not used.
+const UNUSED: Row = Row {
+    tag: 0,
+    below: 0,
+    a: 0,
+    b: 0,
+    c: 0,
+    d: 0,
+};
 
-fn dosage_words(s: Dosage) -> Words
-    ensures { over 0 result ≡ dosage_words 0 s }
+fn dosage_row(below: usize, s: Dosage) -> Row
+    ensures { of_row result ≡ dosage_words below s }
 {
+    let own = Row { below, ..UNUSED };
     match s {
-        Dosage::Simple { amount } => Words {
+        Dosage::Simple { amount } => Row {
             tag: 12,
             a: amount,
-            b: 0,
-            c: 0,
-            d: 0,
+            ..own
         },
         Dosage::FromTo {
             from,
             to,
             unit,
             duration,
-        } => Words {
+        } => Row {
             tag: 13,
+            below,
             a: from,
             b: to,
-            c: unit as u64,
-            d: duration as u64,
+            c: u64::from(unit),
+            d: u64::from(duration),
         },
-        Dosage::Range { min, max } => Words {
+        Dosage::Range { min, max } => Row {
             tag: 14,
             a: min,
             b: max,
-            c: 0,
-            d: 0,
+            ..own
         },
     }
 }
 
-fn kind_words(k: Kind) -> Words
-    ensures { over 0 result ≡ kind_words 0 k }
+fn kind_row(below: usize, k: Kind) -> Row
+    ensures { of_row result ≡ kind_words below k }
 {
+    let own = Row { below, ..UNUSED };
     match k {
-        Kind::None => Words {
-            tag: 0,
-            a: 0,
-            b: 0,
-            c: 0,
-            d: 0,
-        },
+        Kind::None => own,
         Kind::Daily {
             morning,
             noon,
             evening,
             night,
-        } => Words {
+        } => Row {
             tag: 1,
+            below,
             a: morning,
             b: noon,
             c: evening,
             d: night,
         },
-        Kind::FreeText { text } => Words {
+        Kind::FreeText { text } => Row {
             tag: 2,
             a: text.start as u64,
             b: text.len as u64,
-            c: 0,
-            d: 0,
+            ..own
         },
-        Kind::Single => Words {
-            tag: 3,
-            a: 0,
-            b: 0,
-            c: 0,
-            d: 0,
-        },
+        Kind::Single => Row { tag: 3, ..own },
         Kind::Cyclic {
             unit,
             duration,
             per_cycle,
-        } => Words {
+        } => Row {
             tag: 4,
-            a: unit as u64,
-            b: duration as u64,
-            c: per_cycle as u64,
-            d: 0,
+            a: u64::from(unit),
+            b: u64::from(duration),
+            c: u64::from(per_cycle),
+            ..own
         },
-        Kind::Sequence => Words {
-            tag: 5,
-            a: 0,
-            b: 0,
-            c: 0,
-            d: 0,
-        },
-        Kind::DosageOnly => Words {
-            tag: 6,
-            a: 0,
-            b: 0,
-            c: 0,
-            d: 0,
-        },
-        Kind::Times => Words {
-            tag: 7,
-            a: 0,
-            b: 0,
-            c: 0,
-            d: 0,
-        },
-        Kind::DaySegments => Words {
-            tag: 8,
-            a: 0,
-            b: 0,
-            c: 0,
-            d: 0,
-        },
-        Kind::WeekDays { days } => Words {
+        Kind::Sequence => Row { tag: 5, ..own },
+        Kind::DosageOnly => Row { tag: 6, ..own },
+        Kind::Times => Row { tag: 7, ..own },
+        Kind::DaySegments => Row { tag: 8, ..own },
+        Kind::WeekDays { days } => Row {
             tag: 9,
-            a: days as u64,
-            b: 0,
-            c: 0,
-            d: 0,
+            a: u64::from(days),
+            ..own
         },
-        Kind::DaysOfMonth { days } => Words {
+        Kind::DaysOfMonth { days } => Row {
             tag: 10,
-            a: days as u64,
-            b: 0,
-            c: 0,
-            d: 0,
+            a: u64::from(days),
+            ..own
         },
-        Kind::Interval { duration, unit } => Words {
-            tag: 11,
-            a: duration as u64,
-            b: unit as u64,
-            c: 0,
-            d: 0,
-        },
-        Kind::Dosage { dosage } => dosage_words(dosage),
-        Kind::PosologySequence { duration, unit } => Words {
-            tag: 15,
-            a: duration as u64,
-            b: unit as u64,
-            c: 0,
-            d: 0,
-        },
-        Kind::Pause { duration, unit } => Words {
-            tag: 16,
-            a: duration as u64,
-            b: unit as u64,
-            c: 0,
-            d: 0,
-        },
-        Kind::AtTime { second } => Words {
+        Kind::Interval { duration, unit } => lasting(11, below, duration, unit),
+        Kind::Dosage { dosage } => dosage_row(below, dosage),
+        Kind::PosologySequence { duration, unit } => lasting(15, below, duration, unit),
+        Kind::Pause { duration, unit } => lasting(16, below, duration, unit),
+        Kind::AtTime { second } => Row {
             tag: 17,
-            a: second as u64,
-            b: 0,
-            c: 0,
-            d: 0,
+            a: u64::from(second),
+            ..own
         },
-        Kind::InSegment { segment } => Words {
+        Kind::InSegment { segment } => Row {
             tag: 18,
-            a: segment as u64,
-            b: 0,
-            c: 0,
-            d: 0,
+            a: u64::from(segment),
+            ..own
         },
+    }
+}
+
+// A record of a duration and its unit.
+fn lasting(tag: u64, below: usize, duration: u32, unit: u8) -> Row
+    ensures { of_row result ≡ words below tag duration unit 0 0 }
+{
+    Row {
+        tag,
+        below,
+        a: u64::from(duration),
+        b: u64::from(unit),
+        ..UNUSED
     }
 }
 
@@ -185,15 +138,10 @@ fn kind_words(k: Kind) -> Words
 pub fn table_words(t: Table) -> [u64; WORDS]
     ensures { result ≡ rows (all_words t.records) }
 {
-    let records = t.records;
-    let mut out = [0u64; WORDS];
-    let mut i = 0;
-    while i < RECORDS {
-        let r = records[i];
-        let k = r.kind;
-        let w = kind_words(k);
-        table_rows::put(&mut out, i, w.tag, r.below, w.a, w.b, w.c, w.d);
-        i += 1;
+    let mut out = [0; WORDS];
+    for i in 0..RECORDS {
+        let r = t.records[i];
+        table_rows::put(&mut out, i, kind_row(r.below, r.kind));
     }
     out
 }
@@ -203,10 +151,8 @@ fn lay_unused(words: &mut [u64], from: usize)
     requires { length words.old ≡ words_at_most }
     ensures { (rs : List Record) → Upto rs words.old from → Unused rs from → words.new ≡ rows (all_words rs) }
 {
-    let mut i = from;
-    while i < RECORDS {
-        table_rows::put(words, i, 0, 0, 0, 0, 0, 0);
-        i += 1;
+    for i in from..RECORDS {
+        table_rows::put(words, i, UNUSED);
     }
 }
 
@@ -216,13 +162,9 @@ fn lay_made(words: &mut [u64], count: usize)
     ensures upto { (rs : List Record) → Makes rs count words.old → Upto rs words.new count }
     ensures words_len { length words.new ≡ words_at_most }
 {
-    let mut i = 0;
-    while i < count {
+    for i in 0..count {
         let r = table_kinds::record_at(words, i * WIDTH);
-        let k = r.kind;
-        let w = kind_words(k);
-        table_rows::put(words, i, w.tag, r.below, w.a, w.b, w.c, w.d);
-        i += 1;
+        table_rows::put(words, i, kind_row(r.below, r.kind));
     }
 }
 

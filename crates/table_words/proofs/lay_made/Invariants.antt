@@ -1,5 +1,5 @@
 -- The words of the first records, made anew.
-use Prim.Native.Nat.{◌*◌, ◌-◌, ◌≤◌}
+use Prim.Native.Nat.{◌*◌}
 use mathlib.Core.Path.{◌≡◌}
 use mathlib.Core.List.{List}
 use lib.ListN.{length, drop}
@@ -9,7 +9,4 @@ use Rattle.table_words.specs.Laying.{Upto, Makes}
 use Rattle.table_words.proofs.lay_made.Given as goal
 
 abbrev pub invariant-loop-i : goal.invariant-loop-i
-invariant-loop-i l = (l.i ≤ l.count) × (length l.words ≡ words_at_most) × (drop (l.i * width) l.words ≡ drop (l.i * width) l.initial.words) × ((rs : List Record) → Makes rs l.count l.initial.words → Upto rs l.words l.i)
-
-abbrev pub decreases-loop-i : goal.decreases-loop-i
-decreases-loop-i l = l.count - l.i
+invariant-loop-i l = (length l.words ≡ words_at_most) × (drop (l.i * width) l.words ≡ drop (l.i * width) l.initial.words) × ((rs : List Record) → Makes rs l.count l.initial.words → Upto rs l.words l.i)

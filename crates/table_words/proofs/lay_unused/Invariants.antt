@@ -1,5 +1,4 @@
 -- The words of unused records, to the end.
-use Prim.Native.Nat.{◌-◌, ◌≤◌}
 use mathlib.Core.Path.{◌≡◌}
 use mathlib.Core.List.{List}
 use lib.ListN.{length}
@@ -9,7 +8,4 @@ use Rattle.table_words.specs.Laying.{Upto, Unused}
 use Rattle.table_words.proofs.lay_unused.Given as goal
 
 abbrev pub invariant-loop-i : goal.invariant-loop-i
-invariant-loop-i l = (length l.words ≡ words_at_most) × (l.from ≤ l.i) × ((rs : List Record) → Upto rs l.initial.words l.from → Unused rs l.from → Upto rs l.words l.i)
-
-abbrev pub decreases-loop-i : goal.decreases-loop-i
-decreases-loop-i l = 64 - l.i
+invariant-loop-i l = (length l.words ≡ words_at_most) × ((rs : List Record) → Upto rs l.initial.words l.from → Unused rs l.from → Upto rs l.words l.i)
