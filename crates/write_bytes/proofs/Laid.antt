@@ -6,11 +6,15 @@ use Prim.Native.Nat.{ℕ, suc, ◌+◌, ◌≤◌, ◌<◌, min}
 use native.Mathlib.Omega.{arith}
 use borrow.Author.Tests.{leb-true, leb-false}
 use lib.Dec.{leb}
-use lib.ListN.{length, drop, get_or, set, length-set, length-append, drop_of_length-le}
+use lib.ListN.{length, take, drop, get_or, set, length-set, length-append, drop_of_length-le}
 use lib.Seq.{sets, length-sets, set_out}
 use Rattle.json_grammar.proofs.Moves.{byte_here}
+use Rattle.std.proofs.lemmas.Slice.{put_mid-paste}
+use Rattle.std.proofs.lemmas.List.Edits.{paste_all, sets-eq}
+use borrow.Rule.Slice.PartMut.{put_mid}
 use Rattle.json_grammar.proofs.Stores.{sets_append}
-use Rattle.write_bytes.specs.Puts.{greatest_place, up_to, Puts}
+use Rattle.write_bytes.specs.Puts.{greatest_place, up_to, Puts, Lays}
+use Rattle.write_bytes.specs.declared.Output.{Output}
 
 pub up_to_lem : (n : ℕ) → up_to n ≡ min n greatest_place
 up_to_lem n = go (leb n greatest_place) refl
@@ -98,3 +102,42 @@ puts_byte {before} {after} {at} {b} {r} e f k = record {
   place = λ _. f ∙ sym (up_to_lem (at + 1));
   laid = λ _ _. e;
 }
+
+-- ---- an output
+pub lays_none : (out : Output) (text : List ℕ) → Lays out text text out
+lays_none out text = record { same_buffer = refl; puts = puts_none out.buffer.now out.at text }
+
+pub lays_then : {before between after : Output} {text mid rest : List ℕ} → Lays before text mid between → Lays between mid rest after → Lays before text rest after
+lays_then p q = record { same_buffer = q.same_buffer ∙ p.same_buffer; puts = puts_then p.puts q.puts }
+
+pub lays_as : {before after : Output} {text other rest : List ℕ} → text ≡ other → Lays before other rest after → Lays before text rest after
+lays_as e p = record { same_buffer = p.same_buffer; puts = puts_as e p.puts }
+
+-- An output at its end, over the buffer that it took.
+pub lays_in : {buffer last : List ℕ} {from : ℕ} {before after : Output} {text rest : List ℕ} → (before.buffer.now ≡ buffer) × (before.at ≡ from) → last ≡ after.buffer.now → Lays before text rest after → Puts buffer from text rest after.at last
+lays_in e l p = rw (← e.0, ← e.1, l) p.puts
+
+-- One byte, stored in `mid` or not.
+pub lays_byte : {before mid : Output} {b : ℕ} → (mid.at ≡ before.at) × ((mid.buffer.ghost_name ≡ before.buffer.ghost_name) × (mid.buffer.now ≡ set before.buffer.now before.at b))
+    → {r : ℕ} → r ≡ min (mid.at + 1) greatest_place → (k : List ℕ) → Lays before (b ∷ k) k record { buffer = mid.buffer; at = r }
+lays_byte e f k = record { same_buffer = e.1.0; puts = puts_byte e.1.1 (rw (← e.0) f) k }
+
+-- Bytes that all have room, copied over a part of the buffer.
+pub lays_room : {before after : Output} {bytes copied : List ℕ} {n : ℕ} → after.buffer.ghost_name ≡ before.buffer.ghost_name → after.at ≡ before.at + length bytes
+    → after.buffer.now ≡ put_mid before.at n before.buffer.now copied → copied ≡ bytes → n ≡ length bytes → before.at + length bytes ≤ length before.buffer.now
+    → before.at + length bytes ≤ greatest_place → (k : List ℕ) → Lays before (bytes ++ k) k after
+lays_room {before} {after} {bytes} {copied} {n} same place now e f fits h k =
+    let whole : put_mid before.at n before.buffer.now copied ≡ sets before.buffer.now before.at bytes =
+    put_mid-paste before.at n before.buffer.now copied bytes (length bytes) e (sym f) refl
+    ∙ paste_all before.buffer.now before.at bytes (length bytes) refl
+    ∙ sym (append_assoc (take before.at before.buffer.now) bytes (drop (before.at + length bytes) before.buffer.now))
+    ∙ sym (sets-eq bytes before.buffer.now before.at fits) in
+    record { same_buffer = same; puts = rw place (puts_room before.at bytes h (now ∙ whole) k) }
+
+-- The first of the bytes that are left, and none that are left.
+pub lays_next : {before mid after : Output} (bytes : List ℕ) (i : ℕ) → i < length bytes → ((k : List ℕ) → Lays before (bytes ++ k) (drop i bytes ++ k) mid)
+    → ((k : List ℕ) → Lays mid (get_or bytes i 0 ∷ k) k after) → (k : List ℕ) → Lays before (bytes ++ k) (drop (i + 1) bytes ++ k) after
+lays_next bytes i h p q k = lays_then (rw (byte_here bytes i h) at (p k)) (q (drop (i + 1) bytes ++ k))
+
+pub lays_over : {before after : Output} (bytes : List ℕ) (i : ℕ) → length bytes ≤ i → ((k : List ℕ) → Lays before (bytes ++ k) (drop i bytes ++ k) after) → (k : List ℕ) → Lays before (bytes ++ k) k after
+lays_over bytes i h p k = rw (drop_of_length-le bytes h) at (p k)

@@ -2,56 +2,67 @@
 // the place behind them is told all the same, so that a text can be measured without room.
 #![tactic(auto)]
 
-ghost use Rattle.std.specs.Prelude.{◌≡◌, List, ◌∷◌, ◌++◌, ℕ, ◌+◌, ◌≤◌, length};
-ghost use Rattle.std.proofs.lemmas.List.Edits.{sets};
-ghost use Rattle.write_bytes.specs.Puts.{Puts};
+ghost use Rattle.std.specs.Prelude.{◌≡◌, List, ◌∷◌, ◌++◌, ℕ};
+ghost use Rattle.write_bytes.specs.Puts.{Puts, Lays};
 
-const GREATEST_PLACE: usize = 18446744073709551615;
+// A lent buffer and the place behind what stands in it, whether the buffer reaches that far or not.
+#[derive(Drop)]
+pub struct Output<'a> {
+    buffer: &'a mut [u8],
+    at: usize,
+}
+
+impl<'a> Output<'a> {
+    pub fn new(buffer: &'a mut [u8], at: usize) -> Output<'a>
+        ensures same_buffer { result.buffer.ghost_name ≡ buffer.entry.ghost_name }
+        ensures value { (result.buffer.now ≡ buffer.old) × (result.at ≡ at) }
+    {
+        Output { buffer, at }
+    }
+
+    pub fn end(&self) -> usize
+        ensures { result ≡ self.now.at }
+    {
+        self.at
+    }
+
+    pub fn put(&mut self, b: u8)
+        ensures { (k : List ℕ) → Lays self.old (b ∷ k) k self.new }
+    {
+        if self.at < self.buffer.len() {
+            self.buffer[self.at] = b;
+        }
+        self.at = self.at.saturating_add(1);
+    }
+
+    // Where the buffer has room for all of them, a processor stores many at once.
+    pub fn put_all(&mut self, bytes: &[u8])
+        ensures { (k : List ℕ) → Lays self.old (bytes.now ++ k) k self.new }
+    {
+        if self.at < self.buffer.len() && bytes.len() <= self.buffer.len() - self.at {
+            let end = self.at + bytes.len();
+            self.buffer[self.at..end].copy_from_slice(bytes);
+            self.at = end;
+            return;
+        }
+        for b in bytes {
+            self.put(*b);
+        }
+    }
+}
 
 pub fn put(out: &mut [u8], at: usize, b: u8) -> usize
     ensures { (k : List ℕ) → Puts out.old at (b ∷ k) k result out.new }
 {
-    if at < out.len() {
-        out[at] = b;
-    }
-    if at < GREATEST_PLACE {
-        return at + 1;
-    }
-    at
-}
-
-// Where the buffer has room for all of them, which a processor then stores many at once.
-fn put_room(out: &mut [u8], from: usize, bytes: &[u8])
-    requires { from + length bytes.now ≤ length out.old }
-    ensures { out.new ≡ sets out.old from bytes.now }
-{
-    let mut i = 0;
-    while i < bytes.len() {
-        out[from + i] = bytes[i];
-        i += 1;
-    }
-}
-
-fn put_each(out: &mut [u8], from: usize, bytes: &[u8]) -> usize
-    ensures { (k : List ℕ) → Puts out.old from (bytes.now ++ k) k result out.new }
-{
-    let mut at = from;
-    let mut i = 0;
-    while i < bytes.len() {
-        at = put(out, at, bytes[i]);
-        i += 1;
-    }
-    at
+    let mut output = Output::new(out, at);
+    output.put(b);
+    output.end()
 }
 
 pub fn put_all(out: &mut [u8], from: usize, bytes: &[u8]) -> usize
     ensures { (k : List ℕ) → Puts out.old from (bytes.now ++ k) k result out.new }
 {
-    if from < out.len() {
-        if bytes.len() <= out.len() - from {
-            put_room(out, from, bytes);
-            return from + bytes.len();
-        }
-    }
-    put_each(out, from, bytes)
+    let mut output = Output::new(out, from);
+    output.put_all(bytes);
+    output.end()
 }
