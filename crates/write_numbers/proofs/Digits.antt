@@ -87,8 +87,8 @@ spell_amount m k =
     let b : m % 1000000000000 % 1000000 ≡ m % 1000000 = omega arith in
     rw (a, b) (digits_append 5 (m / 1000000 % 1000000) (pointed (m % 1000000)) k ∙ sym (digits_append 5 (m / 1000000 % 1000000) [] (pointed (m % 1000000) ++ k)))
 
-pub amount_bare : (m : ℕ) (k : List ℕ) → m % 1000000 ≡ 0 → spell (amount (m % 1000000000000)) k ≡ spell (whole (m / 1000000 % 1000000)) k
-amount_bare m k e = rw (eq-eqb (m % 1000000) 0 e) at (spell_amount m k)
+pub amount_bare : (m : ℕ) (k : List ℕ) → m % 1000000 ≤ 0 → spell (amount (m % 1000000000000)) k ≡ spell (whole (m / 1000000 % 1000000)) k
+amount_bare m k e = rw (eq-eqb (m % 1000000) 0 (omega arith)) at (spell_amount m k)
 
-pub amount_pointed : (m : ℕ) (k : List ℕ) → (m % 1000000 ≡ 0 → ⊥) → spell (amount (m % 1000000000000)) k ≡ spell (whole (m / 1000000 % 1000000)) (46 ∷ fraction_digits 6 100000 (m % 1000000) ++ k)
-amount_pointed m k e = rw (ne_eqb (m % 1000000) 0 e) at (spell_amount m k)
+pub amount_pointed : (m : ℕ) (k : List ℕ) → 0 < m % 1000000 → spell (amount (m % 1000000000000)) k ≡ spell (whole (m / 1000000 % 1000000)) (46 ∷ fraction_digits 6 100000 (m % 1000000) ++ k)
+amount_pointed m k e = rw (ne_eqb (m % 1000000) 0 (λ z. omega (arith, z))) at (spell_amount m k)

@@ -1,12 +1,14 @@
-// The numbers and times of a plain text, put into a lent buffer.
+// The numbers and times of a plain text, put into an output.
 #![tactic(auto)]
 
 ghost use Rattle.std.specs.Prelude.{◌≡◌, not, List, ◌++◌, ℕ, ◌+◌, ◌%◌, ◌<◌, eqb};
 ghost use Rattle.json_grammar.specs.Tree.{no_member};
 ghost use Rattle.document.specs.Spell.{spell, more_members};
 ghost use Rattle.document.specs.Plain.{fraction_digits, whole, amount, field_if, two, clock, time_text};
-ghost use Rattle.write_bytes.specs.Puts.{Puts};
+ghost use Rattle.write_bytes.specs.Puts.{Puts, Lays};
 ghost use Rattle.write_numbers.specs.Tens.{tens};
+
+use write_bytes::Output;
 
 fn digit(n: u64) -> u8
     ensures { result ≡ 48 + n % 10 }
@@ -15,95 +17,96 @@ fn digit(n: u64) -> u8
 }
 
 // The last digit but one, where there is one.
-fn put_tens(out: &mut [u8], from: usize, n: u64) -> usize
-    ensures { (k : List ℕ) → Puts out.old from (tens n k) k result out.new }
+fn put_tens(out: &mut Output<'_>, n: u64)
+    ensures { (k : List ℕ) → Lays out.old (tens n k) k out.new }
 {
-    if n <= 9 {
-        return from;
+    if 9 < n {
+        out.put(digit(n / 10));
     }
-    write_bytes::put(out, from, digit(n / 10))
 }
 
 // The last six digits of a number, without leading zeros.
+pub fn put_digits(out: &mut Output<'_>, number: u64)
+    ensures { (k : List ℕ) → Lays out.old (spell (whole (number % 1000000)) k) k out.new }
+{
+    let n = number % 1000000;
+    put_tens(out, n / 10000);
+    put_tens(out, n / 1000);
+    put_tens(out, n / 100);
+    put_tens(out, n / 10);
+    put_tens(out, n);
+    out.put(digit(n));
+}
+
+// The same from a place of a buffer on; the answer is the place behind it.
 pub fn put_whole(out: &mut [u8], from: usize, number: u64) -> usize
     ensures { (k : List ℕ) → Puts out.old from (spell (whole (number % 1000000)) k) k result out.new }
 {
-    let n = number % 1000000;
-    let at = put_tens(out, from, n / 10000);
-    let at = put_tens(out, at, n / 1000);
-    let at = put_tens(out, at, n / 100);
-    let at = put_tens(out, at, n / 10);
-    let at = put_tens(out, at, n);
-    write_bytes::put(out, at, digit(n))
+    let mut output = Output::new(out, from);
+    put_digits(&mut output, number);
+    output.end()
 }
 
 // How often a cycle's dosage comes in it, left out where that is once; and the brace that ends the cycle.
-pub fn put_per_cycle(out: &mut [u8], from: usize, per: u64) -> usize
-    ensures { (k : List ℕ) → Puts out.old from (more_members (field_if (not (eqb (per % 1000000) 1)) "tdpc" (whole (per % 1000000)) no_member) k) k result out.new }
+pub fn put_per_cycle(out: &mut Output<'_>, per: u64)
+    ensures { (k : List ℕ) → Lays out.old (more_members (field_if (not (eqb (per % 1000000) 1)) "tdpc" (whole (per % 1000000)) no_member) k) k out.new }
 {
     let n = per % 1000000;
-    if n == 1 {
-        return write_bytes::put(out, from, b'}');
+    if n != 1 {
+        out.put_all(b",\"tdpc\":");
+        put_digits(out, n);
     }
-    let at = write_bytes::put_all(out, from, b",\"tdpc\":");
-    let at = put_whole(out, at, n);
-    write_bytes::put(out, at, b'}')
+    out.put(b'}');
 }
 
 // The digits behind the point, as long as something is left.
-fn put_fraction(out: &mut [u8], from: usize, millionths: u64) -> usize
+fn put_fraction(out: &mut Output<'_>, millionths: u64)
     requires { millionths < 1000000 }
-    ensures { (k : List ℕ) → Puts out.old from (fraction_digits 6 100000 millionths ++ k) k result out.new }
+    ensures { (k : List ℕ) → Lays out.old (fraction_digits 6 100000 millionths ++ k) k out.new }
 {
     let mut left = millionths;
-    let mut scale: u64 = 100000;
-    let mut at = from;
-    while 0 < scale {
-        if left == 0 {
-            return at;
-        }
-        at = write_bytes::put(out, at, digit(left / scale));
-        left = left % scale;
-        scale = scale / 10;
+    let mut scale = 100000;
+    while 0 < left {
+        out.put(digit(left / scale));
+        left %= scale;
+        scale /= 10;
     }
-    at
 }
 
 // A decimal of so many millionths, without trailing zeros or bare dot: the last six digits in front of the point.
-pub fn put_amount(out: &mut [u8], from: usize, millionths: u64) -> usize
-    ensures { (k : List ℕ) → Puts out.old from (spell (amount (millionths % 1000000000000)) k) k result out.new }
+pub fn put_amount(out: &mut Output<'_>, millionths: u64)
+    ensures { (k : List ℕ) → Lays out.old (spell (amount (millionths % 1000000000000)) k) k out.new }
 {
-    let at = put_whole(out, from, millionths / 1000000);
+    put_digits(out, millionths / 1000000);
     let left = millionths % 1000000;
-    if left == 0 {
-        return at;
+    if 0 < left {
+        out.put(b'.');
+        put_fraction(out, left);
     }
-    let dot = write_bytes::put(out, at, b'.');
-    put_fraction(out, dot, left)
 }
 
 // The last two digits of a number.
-pub fn put_two(out: &mut [u8], from: usize, n: u64) -> usize
-    ensures { (k : List ℕ) → Puts out.old from (two (n % 100) k) k result out.new }
+pub fn put_two(out: &mut Output<'_>, n: u64)
+    ensures { (k : List ℕ) → Lays out.old (two (n % 100) k) k out.new }
 {
-    let at = write_bytes::put(out, from, digit(n / 10));
-    write_bytes::put(out, at, digit(n))
+    out.put(digit(n / 10));
+    out.put(digit(n));
 }
 
 // hh:mm
-pub fn put_clock(out: &mut [u8], from: usize, minutes: u64) -> usize
-    ensures { (k : List ℕ) → Puts out.old from (clock (minutes % 6000) k) k result out.new }
+pub fn put_clock(out: &mut Output<'_>, minutes: u64)
+    ensures { (k : List ℕ) → Lays out.old (clock (minutes % 6000) k) k out.new }
 {
-    let at = put_two(out, from, minutes / 60);
-    let at = write_bytes::put(out, at, b':');
-    put_two(out, at, minutes % 60)
+    put_two(out, minutes / 60);
+    out.put(b':');
+    put_two(out, minutes % 60);
 }
 
 // hh:mm:ss
-pub fn put_time(out: &mut [u8], from: usize, second: u64) -> usize
-    ensures { (k : List ℕ) → Puts out.old from (time_text (second % 360000) k) k result out.new }
+pub fn put_time(out: &mut Output<'_>, second: u64)
+    ensures { (k : List ℕ) → Lays out.old (time_text (second % 360000) k) k out.new }
 {
-    let at = put_clock(out, from, second / 60);
-    let at = write_bytes::put(out, at, b':');
-    put_two(out, at, second % 60)
+    put_clock(out, second / 60);
+    out.put(b':');
+    put_two(out, second % 60);
 }

@@ -1,11 +1,11 @@
-use Rattle.write_bytes.proofs.Laid.{puts_then, puts_as}
+use Rattle.write_bytes.proofs.Laid.{lays_then, lays_as}
 use Rattle.write_numbers.proofs.Digits.{amount_bare, amount_pointed}
 use Rattle.write_numbers.proofs.put_amount.Goals as goal
 
-pub returns-then-left-eq0 : goal.returns-then-left-eq0
-returns-then-left-eq0 c k =
-    puts_as (amount_bare _ k c.if-left-eq0.true) (c.put_whole-at.ensures k)
+pub returns-then-left-gt0 : goal.returns-then-left-gt0
+returns-then-left-gt0 c k =
+    lays_as (amount_pointed _ k c.if-left-gt0.true) (lays_then (c.put_digits.ensures _) (lays_then (c.put.ensures _) (c.put_fraction.ensures k)))
 
-pub returns : goal.returns
-returns c k =
-    puts_as (amount_pointed _ k c.if-left-eq0.false) (puts_then (c.put_whole-at.ensures _) (puts_then (c.put-dot.ensures _) (c.put_fraction.ensures k)))
+pub returns-else-left-gt0 : goal.returns-else-left-gt0
+returns-else-left-gt0 c k =
+    lays_as (amount_bare _ k c.if-left-gt0.false) (c.put_digits.ensures k)

@@ -3,16 +3,16 @@ use mathlib.Core.Path.{◌≡◌}
 use mathlib.Core.List.{◌∷◌}
 use Prim.Native.Nat.{◌%◌}
 use native.Mathlib.Omega.{arith}
-use Rattle.write_bytes.proofs.Laid.{puts_then, puts_as}
+use Rattle.write_bytes.proofs.Laid.{lays_then, lays_as}
 use Rattle.write_numbers.proofs.Cycles.{once_text, per_text}
 use Rattle.write_numbers.proofs.put_per_cycle.Goals as goal
-
-pub returns-then-n-eq1 : goal.returns-then-n-eq1
-returns-then-n-eq1 c k =
-    puts_as (once_text k _ c.if-n-eq1.true) (c.put.ensures k)
+use Rattle.write_numbers.proofs.put_per_cycle.Goals.{then-n-ne1, else-n-ne1}
 
 pub returns : goal.returns
 returns c k =
     let n = c.args.per % 1000000 in
     let e : n % 1000000 ≡ n = omega arith in
-    puts_as (per_text k n c.if-n-eq1.false) (puts_then (c.put_all-at.ensures _) (puts_then (rw e at (c.put_whole-at.ensures (125 ∷ k))) (c.put-2.ensures k)))
+    elim c.if-n-ne1.branch [
+      | then-n-ne1 w ↦ lays_as (per_text k n w.if-n-ne1.true) (lays_then (w.put_all.ensures _) (lays_then (rw e at (w.put_digits.ensures (125 ∷ k))) (rw w.out-is at (c.put.ensures k))))
+      | else-n-ne1 w ↦ lays_as (once_text k n w.if-n-ne1.false) (rw w.out-is at (c.put.ensures k))
+    ]
