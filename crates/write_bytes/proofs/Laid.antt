@@ -2,13 +2,13 @@
 use mathlib.Core.Path.{◌≡◌, refl, ap, sym, ◌∙◌}
 use mathlib.Core.List.{List, [], ◌∷◌, ◌++◌, append_assoc, append_cancel_right}
 use mathlib.Core.Bool.{Bool, true, false, cond}
-use Prim.Native.Nat.{ℕ, suc, ◌+◌, ◌≤◌, ◌<◌, min}
+use Prim.Native.Nat.{ℕ, suc, ◌+◌, ◌≤◌, min}
 use native.Mathlib.Omega.{arith}
 use borrow.Author.Tests.{leb-true, leb-false}
 use lib.Dec.{leb}
-use lib.ListN.{length, take, drop, get_or, set, length-set, length-append, drop_of_length-le}
+use lib.ListN.{length, take, drop, set, length-set, length-append, take-append-drop}
+use Rattle.std.proofs.Common.{length-take-le}
 use lib.Seq.{sets, length-sets, set_out}
-use Rattle.json_grammar.proofs.Moves.{byte_here}
 use Rattle.std.proofs.lemmas.Slice.{put_mid-paste}
 use Rattle.std.proofs.lemmas.List.Edits.{paste_all, sets-eq}
 use borrow.Rule.Slice.PartMut.{put_mid}
@@ -23,7 +23,7 @@ up_to_lem n = go (leb n greatest_place) refl
     go true e = omega (arith, leb-true n greatest_place e)
     go false e = omega (arith, leb-false n greatest_place e)
 
-sets_beyond : (l : List ℕ) (a : ℕ) (xs : List ℕ) → length l ≤ a → sets l a xs ≡ l
+pub sets_beyond : (l : List ℕ) (a : ℕ) (xs : List ℕ) → length l ≤ a → sets l a xs ≡ l
 sets_beyond l a [] h = refl
 sets_beyond l a (x ∷ xs) h = let e = length-set l a x in sets_beyond (set l a x) (suc a) xs (omega arith) ∙ set_out l a x h
 
@@ -35,14 +35,22 @@ sets_stopped l a xs h = go (leb a greatest_place) refl
     go true e = refl
     go false e = sets_beyond l greatest_place xs h ∙ sym (sets_beyond l a xs (omega (arith, leb-false a greatest_place e)))
 
--- Bytes stored one by one: the first of those that are left, and none.
-pub sets_next : (l xs : List ℕ) (from i : ℕ) → i < length xs → sets (set l (from + i) (get_or xs i 0)) (from + (i + 1)) (drop (i + 1) xs) ≡ sets l (from + i) (drop i xs)
-sets_next l xs from i h =
-    let n : from + (i + 1) ≡ suc (from + i) = omega arith in
-    ap (λ (k : ℕ). sets (set l (from + i) (get_or xs i 0)) k (drop (i + 1) xs)) n ∙ ap (sets l (from + i)) (sym (byte_here xs i h))
+-- Bytes copied over a part of the buffer: all of them, or as many as it reaches.
+pub copied_all : (at : ℕ) (l bytes : List ℕ) {n : ℕ} {copied : List ℕ} → copied ≡ bytes → n ≡ length bytes → at + length bytes ≤ length l → put_mid at n l copied ≡ sets l at bytes
+copied_all at l bytes {n} {copied} e f fits =
+    put_mid-paste at n l copied bytes (length bytes) e (sym f) refl
+    ∙ paste_all l at bytes (length bytes) refl
+    ∙ sym (append_assoc (take at l) bytes (drop (at + length bytes) l))
+    ∙ sym (sets-eq bytes l at fits)
 
-pub sets_over : (l xs : List ℕ) (at i : ℕ) → length xs ≤ i → l ≡ sets l at (drop i xs)
-sets_over l xs at i h = ap (sets l at) (sym (drop_of_length-le xs h))
+pub copied_front : (at : ℕ) (l bytes : List ℕ) {n : ℕ} {copied : List ℕ} → copied ≡ take n bytes → n ≤ length bytes → at + n ≡ length l → put_mid at n l copied ≡ sets l at bytes
+copied_front at l bytes {n} {copied} e h fits =
+    let t = length-take-le n bytes h in
+    let whole : length (sets l at (take n bytes)) ≤ at + length (take n bytes) = omega (arith, t, length-sets l at (take n bytes)) in
+    copied_all at l (take n bytes) e (sym t) (omega (arith, t))
+    ∙ sym (sets_beyond (sets l at (take n bytes)) (at + length (take n bytes)) (drop n bytes) whole)
+    ∙ sym (sets_append (take n bytes) (drop n bytes) l at)
+    ∙ ap (sets l at) (take-append-drop n bytes)
 
 -- Bytes that all have room.
 pub puts_room : {before after : List ℕ} (from : ℕ) (bytes : List ℕ) → from + length bytes ≤ greatest_place → after ≡ sets before from bytes → (k : List ℕ) → Puts before from (bytes ++ k) k (from + length bytes) after
@@ -94,15 +102,6 @@ puts_one {before} {from} {text} {rest} h g p q =
       p.laid h g ∙ ap (sets before from) same ∙ sym (q.laid h g),
     )
 
--- One byte, stored or not.
-pub puts_byte : {before after : List ℕ} {at b r : ℕ} → after ≡ set before at b → r ≡ min (at + 1) greatest_place → (k : List ℕ) → Puts before at (b ∷ k) k r after
-puts_byte {before} {after} {at} {b} {r} e f k = record {
-  bytes = b ∷ [];
-  in_front = refl;
-  place = λ _. f ∙ sym (up_to_lem (at + 1));
-  laid = λ _ _. e;
-}
-
 -- ---- an output
 pub lays_none : (out : Output) (text : List ℕ) → Lays out text text out
 lays_none out text = record { same_buffer = refl; puts = puts_none out.buffer.now out.at text }
@@ -117,27 +116,14 @@ lays_as e p = record { same_buffer = p.same_buffer; puts = puts_as e p.puts }
 pub lays_in : {buffer last : List ℕ} {from : ℕ} {before after : Output} {text rest : List ℕ} → (before.buffer.now ≡ buffer) × (before.at ≡ from) → last ≡ after.buffer.now → Lays before text rest after → Puts buffer from text rest after.at last
 lays_in e l p = rw (← e.0, ← e.1, l) p.puts
 
--- One byte, stored in `mid` or not.
-pub lays_byte : {before mid : Output} {b : ℕ} → (mid.at ≡ before.at) × ((mid.buffer.ghost_name ≡ before.buffer.ghost_name) × (mid.buffer.now ≡ set before.buffer.now before.at b))
-    → {r : ℕ} → r ≡ min (mid.at + 1) greatest_place → (k : List ℕ) → Lays before (b ∷ k) k record { buffer = mid.buffer; at = r }
-lays_byte e f k = record { same_buffer = e.1.0; puts = puts_byte e.1.1 (rw (← e.0) f) k }
+-- Bytes stored in `mid` as far as it reaches.
+pub lays_bytes : {before : Output} (mid : Output) (bytes : List ℕ) → (mid.buffer.ghost_name ≡ before.buffer.ghost_name) × (mid.buffer.now ≡ sets before.buffer.now before.at bytes)
+    → {r : ℕ} → r ≡ min (before.at + length bytes) greatest_place → (k : List ℕ) → Lays before (bytes ++ k) k record { buffer = mid.buffer; at = r }
+lays_bytes {before} mid bytes e f k = record {
+  same_buffer = e.0;
+  puts = record { bytes = bytes; in_front = refl; place = λ _. f ∙ sym (up_to_lem (before.at + length bytes)); laid = λ _ _. e.1 };
+}
 
--- Bytes that all have room, copied over a part of the buffer.
-pub lays_room : {before after : Output} {bytes copied : List ℕ} {n : ℕ} → after.buffer.ghost_name ≡ before.buffer.ghost_name → after.at ≡ before.at + length bytes
-    → after.buffer.now ≡ put_mid before.at n before.buffer.now copied → copied ≡ bytes → n ≡ length bytes → before.at + length bytes ≤ length before.buffer.now
+pub lays_room : {before after : Output} (bytes : List ℕ) → after.buffer.ghost_name ≡ before.buffer.ghost_name → after.at ≡ before.at + length bytes → after.buffer.now ≡ sets before.buffer.now before.at bytes
     → before.at + length bytes ≤ greatest_place → (k : List ℕ) → Lays before (bytes ++ k) k after
-lays_room {before} {after} {bytes} {copied} {n} same place now e f fits h k =
-    let whole : put_mid before.at n before.buffer.now copied ≡ sets before.buffer.now before.at bytes =
-    put_mid-paste before.at n before.buffer.now copied bytes (length bytes) e (sym f) refl
-    ∙ paste_all before.buffer.now before.at bytes (length bytes) refl
-    ∙ sym (append_assoc (take before.at before.buffer.now) bytes (drop (before.at + length bytes) before.buffer.now))
-    ∙ sym (sets-eq bytes before.buffer.now before.at fits) in
-    record { same_buffer = same; puts = rw place (puts_room before.at bytes h (now ∙ whole) k) }
-
--- The first of the bytes that are left, and none that are left.
-pub lays_next : {before mid after : Output} (bytes : List ℕ) (i : ℕ) → i < length bytes → ((k : List ℕ) → Lays before (bytes ++ k) (drop i bytes ++ k) mid)
-    → ((k : List ℕ) → Lays mid (get_or bytes i 0 ∷ k) k after) → (k : List ℕ) → Lays before (bytes ++ k) (drop (i + 1) bytes ++ k) after
-lays_next bytes i h p q k = lays_then (rw (byte_here bytes i h) at (p k)) (q (drop (i + 1) bytes ++ k))
-
-pub lays_over : {before after : Output} (bytes : List ℕ) (i : ℕ) → length bytes ≤ i → ((k : List ℕ) → Lays before (bytes ++ k) (drop i bytes ++ k) after) → (k : List ℕ) → Lays before (bytes ++ k) k after
-lays_over bytes i h p k = rw (drop_of_length-le bytes h) at (p k)
+lays_room {before} {after} bytes same place now h k = record { same_buffer = same; puts = rw place (puts_room before.at bytes h now k) }

@@ -2,10 +2,11 @@
 // the place behind them is told all the same, so that a text can be measured without room.
 #![tactic(auto)]
 
-ghost use Rattle.std.specs.Prelude.{◌≡◌, List, ◌∷◌, ◌++◌, ℕ};
+ghost use Rattle.std.specs.Prelude.{◌≡◌, List, ◌∷◌, ◌++◌, ℕ, ◌+◌, ◌<◌, ◌≤◌, length};
 ghost use Rattle.write_bytes.specs.Puts.{Puts, Lays};
 
 // A lent buffer and the place behind what stands in it, whether the buffer reaches that far or not.
+// Methods read the place once: a compiler does not know that a byte which is stored is not the place.
 #[derive(Drop)]
 pub struct Output<'a> {
     buffer: &'a mut [u8],
@@ -29,25 +30,38 @@ impl<'a> Output<'a> {
     pub fn put(&mut self, b: u8)
         ensures { (k : List ℕ) → Lays self.old (b ∷ k) k self.new }
     {
-        if self.at < self.buffer.len() {
-            self.buffer[self.at] = b;
+        let at = self.at;
+        if at < self.buffer.len() {
+            self.buffer[at] = b;
         }
-        self.at = self.at.saturating_add(1);
+        self.at = at.saturating_add(1);
     }
 
     // Where the buffer has room for all of them, a processor stores many at once.
     pub fn put_all(&mut self, bytes: &[u8])
         ensures { (k : List ℕ) → Lays self.old (bytes.now ++ k) k self.new }
     {
-        if self.at < self.buffer.len() && bytes.len() <= self.buffer.len() - self.at {
-            let end = self.at + bytes.len();
-            self.buffer[self.at..end].copy_from_slice(bytes);
-            self.at = end;
-            return;
+        let at = self.at;
+        if at < self.buffer.len() && bytes.len() <= self.buffer.len() - at {
+            self.buffer[at..at + bytes.len()].copy_from_slice(bytes);
+            self.at = at + bytes.len();
+        } else {
+            self.put_front(bytes);
         }
-        for b in bytes {
-            self.put(*b);
+    }
+
+    // Those that the buffer reaches. Not in line, so that what calls `put_all` stays small.
+    #[inline(never)]
+    fn put_front(&mut self, bytes: &[u8])
+        requires { self.old.at < length self.old.buffer.now → length self.old.buffer.now ≤ self.old.at + length bytes.now }
+        ensures { (k : List ℕ) → Lays self.old (bytes.now ++ k) k self.new }
+    {
+        let at = self.at;
+        if at < self.buffer.len() {
+            let room = self.buffer.len() - at;
+            self.buffer[at..].copy_from_slice(&bytes[..room]);
         }
+        self.at = at.saturating_add(bytes.len());
     }
 }
 
