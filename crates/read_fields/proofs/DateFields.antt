@@ -24,10 +24,7 @@ use Rattle.document.specs.declared.table.Date.{Date as Cell}
 use Rattle.read_fields.specs.Fields.{Reads, ReadsTime, Dated, ReadsDate}
 use Rattle.read_fields.specs.Dates.{IsDate, IsTime}
 use Rattle.read_fields.specs.Reading.{is_text, dated, DateAt, time_at}
-use Rattle.read_fields.specs.declared.date.Dated.{Dated as DateRead}
-use Rattle.read_fields.specs.declared.date.Dated.TheVariants as R
-use Rattle.read_fields.specs.declared.date.Timed.{Timed}
-use Rattle.read_fields.specs.declared.date.Timed.TheVariants as T
+use Rattle.std.specs.Prelude.{Option as Answer, Some, None}
 use Rattle.read_fields.specs.declared.field.Field.{Field}
 use Rattle.read_fields.specs.declared.field.Field.TheVariants as F
 use Rattle.read_fields.specs.declared.field.DateField.{DateField}
@@ -91,19 +88,19 @@ module _ {ds after : List ℕ} {n : ℕ} (q : Lies ds after 25 n) where
     filled : is_empty ds ≡ false
     filled = some_of_length ds (λ z. m (q.size ∙ z))
 
-    pub date_is : (r : DateRead) (d : Cell) → IsDate (take n after) r → r ≡ R.Is d → (o : Option P.Date) × (dated ds ≡ some o) × (date_cell o ≡ d)
+    pub date_is : (r : Answer Cell) (d : Cell) → IsDate (take n after) r → r ≡ Some d → (o : Option P.Date) × (dated ds ≡ some o) × (date_cell o ≡ d)
     date_is r d h e =
-        let k : IsDate ds (R.Is d) = rw (q.bytes, e) at h in
+        let k : IsDate ds (Some d) = rw (q.bytes, e) at h in
         (some k.0, rw (filled, k.1), k.2)
 
-    pub date_is_not : (r : DateRead) → IsDate (take n after) r → r ≡ R.Not → dated ds ≡ none
-    date_is_not r h e = let k : IsDate ds R.Not = rw (q.bytes, e) at h in rw (filled, k)
+    pub date_is_not : (r : Answer Cell) → IsDate (take n after) r → r ≡ None → dated ds ≡ none
+    date_is_not r h e = let k : IsDate ds None = rw (q.bytes, e) at h in rw (filled, k)
 
-    pub time_is : (brace v : ℕ) (r : Timed) (s : ℕ) → IsTime (take n after) r → r ≡ T.Is s → F.Is s ≡ time_at brace v (is_empty ds) (time_of ds)
-    time_is brace v r s h e = let k : IsTime ds (T.Is s) = rw (q.bytes, e) at h in rw (filled, k)
+    pub time_is : (brace v : ℕ) (r : Answer ℕ) (s : ℕ) → IsTime (take n after) r → r ≡ Some s → F.Is s ≡ time_at brace v (is_empty ds) (time_of ds)
+    time_is brace v r s h e = let k : IsTime ds (Some s) = rw (q.bytes, e) at h in rw (filled, k)
 
-    pub time_is_not : (brace v : ℕ) (r : Timed) → IsTime (take n after) r → r ≡ T.Not → F.Refused 13 v ≡ time_at brace v (is_empty ds) (time_of ds)
-    time_is_not brace v r h e = let k : IsTime ds T.Not = rw (q.bytes, e) at h in rw (filled, k)
+    pub time_is_not : (brace v : ℕ) (r : Answer ℕ) → IsTime (take n after) r → r ≡ None → F.Refused 13 v ≡ time_at brace v (is_empty ds) (time_of ds)
+    time_is_not brace v r h e = let k : IsTime ds None = rw (q.bytes, e) at h in rw (filled, k)
 
 -- In a field.
 pub absent_date : (text : List ℕ) (v : ℕ) (o : Outcome (Option P.Date)) (l : State) → o ≡ done none l → Dated o l (date_cell none)

@@ -10,7 +10,6 @@ ghost use Rattle.read_fields.specs.Fields.{ReadsAt, ReadsNeeded, CountsAt, Count
 ghost use Rattle.read_fields.specs.Reading.{whole_at, millionths_at, roomed, is_object, is_array, is_text, is_number, is_null, DateAt, time_at};
 
 use crate::date;
-use crate::date::Dated;
 use document::table::Date;
 use document::terms;
 use document::terms::{Terms, Used};
@@ -322,8 +321,8 @@ fn date_read(text: &[u8], v: usize) -> DateField
         return DateField::Is(Date::Absent);
     }
     match date::date_of(&bytes[..n]) {
-        Dated::Is(d) => DateField::Is(d),
-        Dated::Not => DateField::Refused(13, v),
+        Some(d) => DateField::Is(d),
+        None => DateField::Refused(13, v),
     }
 }
 
@@ -354,8 +353,8 @@ fn time_read(text: &[u8], brace: usize, v: usize) -> Field
         return Field::Refused(7, brace);
     }
     match date::time_of(&bytes[..n]) {
-        date::Timed::Is(s) => Field::Is(s),
-        date::Timed::Not => Field::Refused(13, v),
+        Some(s) => Field::Is(s),
+        None => Field::Refused(13, v),
     }
 }
 

@@ -1,29 +1,21 @@
--- Hours and minutes.
-use Rattle.read_fields.proofs.DateLaws.{no_hour, no_colon, no_minute, late_hour, late_minute, a_clock}
-use mathlib.Core.Path.{ap}
-use mathlib.Core.Bool.{not}
+-- A clock by its bytes.
+use borrow.Author.Rules.{rules}
+use native.Mathlib.Omega.{arith}
+use Rattle.std.proofs.lemmas.Grind.{common_steps}
+use Rattle.std.proofs.lemmas.Bool.Decides.{nat_tests}
+use Rattle.read_fields.proofs.DateLaws.{no_minute, clock_tests}
 use Rattle.read_fields.proofs.date.clock_at.Goals as goal
 
-pub returns-in_default : goal.returns-in_default
-returns-in_default c =
-    no_hour c.args.bytes.now c.args.at (rw c.in_default.is at c.pair_at.ensures)
+pub returns-in_err-minute : goal.returns-in_err-minute
+returns-in_err-minute c =
+    search (rules, no_minute)
 
-pub returns-then-not-is_at : goal.returns-then-not-is_at
-returns-then-not-is_at c =
-    no_colon c.args.bytes.now c.args.at _ (rw c.in-Is.is at c.pair_at.ensures) _ c.is_at.ensures (ap not c.if-not-is_at.true)
-
-pub returns-in_default-pair_at : goal.returns-in_default-pair_at
-returns-in_default-pair_at c =
-    no_minute c.args.bytes.now c.args.at _ (rw c.in-Is.is at c.pair_at.ensures) _ c.is_at.ensures (ap not c.if-not-is_at.false) (rw c.in_default-pair_at.is at c.pair_at-2.ensures)
-
-pub returns-then-h-gt23 : goal.returns-then-h-gt23
-returns-then-h-gt23 c =
-    late_hour c.args.bytes.now c.args.at _ (rw c.in-Is.is at c.pair_at.ensures) _ c.is_at.ensures (ap not c.if-not-is_at.false) _ (rw c.in-Is-pair_at.is at c.pair_at-2.ensures) c.if-h-gt23.true
-
-pub returns-then-m-gt59 : goal.returns-then-m-gt59
-returns-then-m-gt59 c =
-    late_minute c.args.bytes.now c.args.at _ (rw c.in-Is.is at c.pair_at.ensures) _ c.is_at.ensures (ap not c.if-not-is_at.false) _ (rw c.in-Is-pair_at.is at c.pair_at-2.ensures) c.if-h-gt23.false c.if-m-gt59.true
+pub returns-then-minute-le59 : goal.returns-then-minute-le59
+returns-then-minute-le59 c =
+    let e = clock_tests _ _ _ c.in_ok-hour.ensures _ c.in_ok-minute.ensures in
+    record { outcome = grind (arith, common_steps, nat_tests); small = omega arith; inside = omega (arith, c.in_ok-minute.ensures.inside) }
 
 pub returns : goal.returns
 returns c =
-    a_clock c.args.bytes.now c.args.at _ (rw c.in-Is.is at c.pair_at.ensures) _ c.is_at.ensures (ap not c.if-not-is_at.false) _ (rw c.in-Is-pair_at.is at c.pair_at-2.ensures) c.if-h-gt23.false c.if-m-gt59.false
+    let e = clock_tests _ _ _ c.in_ok-hour.ensures _ c.in_ok-minute.ensures in
+    grind (arith, common_steps, nat_tests)

@@ -1,21 +1,21 @@
 -- Seconds behind minutes.
-use Rattle.read_fields.proofs.DateLaws.{no_seconds, no_second, late_second, a_second}
-use mathlib.Core.Path.{ap}
-use mathlib.Core.Bool.{not}
+use borrow.Author.Rules.{rules}
+use native.Mathlib.Omega.{arith}
+use Rattle.std.proofs.lemmas.Grind.{common_steps}
+use Rattle.std.proofs.lemmas.Bool.Decides.{nat_tests}
+use Rattle.read_fields.proofs.DateLaws.{no_second, second_tests}
 use Rattle.read_fields.proofs.date.seconds_at.Goals as goal
 
-pub returns-then-not-is_at : goal.returns-then-not-is_at
-returns-then-not-is_at c =
-    no_seconds c.args.bytes.now c.args.at c.args.minutes _ c.is_at.ensures (ap not c.if-not-is_at.true)
+pub returns-in_err-second : goal.returns-in_err-second
+returns-in_err-second c =
+    search (rules, no_second)
 
-pub returns-in_default : goal.returns-in_default
-returns-in_default c =
-    no_second c.args.bytes.now c.args.at c.args.minutes _ c.is_at.ensures (ap not c.if-not-is_at.false) (rw c.in_default.is at c.pair_at.ensures)
-
-pub returns-then-s-gt59 : goal.returns-then-s-gt59
-returns-then-s-gt59 c =
-    late_second c.args.bytes.now c.args.at c.args.minutes _ c.is_at.ensures (ap not c.if-not-is_at.false) _ (rw c.in-Is.is at c.pair_at.ensures) c.if-s-gt59.true
+pub returns-then-second-le59 : goal.returns-then-second-le59
+returns-then-second-le59 c =
+    let e = second_tests _ _ c.args.minutes _ c.in_ok-second.ensures in
+    record { outcome = grind (arith, common_steps, nat_tests); small = omega arith; inside = omega (arith, c.in_ok-second.ensures.inside) }
 
 pub returns : goal.returns
 returns c =
-    a_second c.args.bytes.now c.args.at c.args.minutes _ c.is_at.ensures (ap not c.if-not-is_at.false) _ (rw c.in-Is.is at c.pair_at.ensures) c.requires.1 c.if-s-gt59.false
+    let e = second_tests _ _ c.args.minutes _ c.in_ok-second.ensures in
+    grind (arith, common_steps, nat_tests)

@@ -23,10 +23,10 @@ pub slice_bounds-date_of-end : goal.slice_bounds-date_of-end
 slice_bounds-date_of-end c =
     lies_size (lies (replicate 25 0) (decoded (drop c.args.v c.args.text.now)) c.lay.result refl c.lay.ensures.value c.lay.new.buffer c.in-Behind.n c.lay.ensures.buffer_after c.in-Behind.is)
 
-pub returns-in-Is : goal.returns-in-Is
-returns-in-Is c =
-    date_is (lies (replicate 25 0) (decoded (drop c.args.v c.args.text.now)) c.lay.result refl c.lay.ensures.value c.lay.new.buffer c.in-Behind.n c.lay.ensures.buffer_after c.in-Behind.is) c.if-n-eq0.false c.date_of.result c.in-Is.d c.date_of.ensures c.in-Is.is
+pub returns-in-Some : goal.returns-in-Some
+returns-in-Some c =
+    date_is (lies (replicate 25 0) (decoded (drop c.args.v c.args.text.now)) c.lay.result refl c.lay.ensures.value c.lay.new.buffer c.in-Behind.n c.lay.ensures.buffer_after c.in-Behind.is) c.if-n-eq0.false c.date_of.result c.in-Some.d c.date_of.ensures c.in-Some.is
 
-pub returns-in-Not : goal.returns-in-Not
-returns-in-Not c =
-    (date_is_not (lies (replicate 25 0) (decoded (drop c.args.v c.args.text.now)) c.lay.result refl c.lay.ensures.value c.lay.new.buffer c.in-Behind.n c.lay.ensures.buffer_after c.in-Behind.is) c.if-n-eq0.false c.date_of.result c.date_of.ensures c.in-Not.is, refl, refl)
+pub returns-in-None : goal.returns-in-None
+returns-in-None c =
+    (date_is_not (lies (replicate 25 0) (decoded (drop c.args.v c.args.text.now)) c.lay.result refl c.lay.ensures.value c.lay.new.buffer c.in-Behind.n c.lay.ensures.buffer_after c.in-Behind.is) c.if-n-eq0.false c.date_of.result c.date_of.ensures c.in-None.is, refl, refl)

@@ -22,10 +22,10 @@ pub slice_bounds-time_of-end : goal.slice_bounds-time_of-end
 slice_bounds-time_of-end c =
     lies_size (lies (replicate 25 0) (decoded (drop c.args.v c.args.text.now)) c.lay.result refl c.lay.ensures.value c.lay.new.buffer c.in-Behind.n c.lay.ensures.buffer_after c.in-Behind.is)
 
-pub returns-in-Is : goal.returns-in-Is
-returns-in-Is c =
-    time_is (lies (replicate 25 0) (decoded (drop c.args.v c.args.text.now)) c.lay.result refl c.lay.ensures.value c.lay.new.buffer c.in-Behind.n c.lay.ensures.buffer_after c.in-Behind.is) c.if-n-eq0.false c.args.brace c.args.v c.time_of.result c.in-Is.s c.time_of.ensures c.in-Is.is
+pub returns-in-Some : goal.returns-in-Some
+returns-in-Some c =
+    time_is (lies (replicate 25 0) (decoded (drop c.args.v c.args.text.now)) c.lay.result refl c.lay.ensures.value c.lay.new.buffer c.in-Behind.n c.lay.ensures.buffer_after c.in-Behind.is) c.if-n-eq0.false c.args.brace c.args.v c.time_of.result c.in-Some.s c.time_of.ensures c.in-Some.is
 
-pub returns-in-Not : goal.returns-in-Not
-returns-in-Not c =
-    time_is_not (lies (replicate 25 0) (decoded (drop c.args.v c.args.text.now)) c.lay.result refl c.lay.ensures.value c.lay.new.buffer c.in-Behind.n c.lay.ensures.buffer_after c.in-Behind.is) c.if-n-eq0.false c.args.brace c.args.v c.time_of.result c.time_of.ensures c.in-Not.is
+pub returns-in-None : goal.returns-in-None
+returns-in-None c =
+    time_is_not (lies (replicate 25 0) (decoded (drop c.args.v c.args.text.now)) c.lay.result refl c.lay.ensures.value c.lay.new.buffer c.in-Behind.n c.lay.ensures.buffer_after c.in-Behind.is) c.if-n-eq0.false c.args.brace c.args.v c.time_of.result c.time_of.ensures c.in-None.is
