@@ -1,12 +1,5 @@
 -- What the proofs of several functions use, and what those of the crates above cite: the elements of a list, and refusals.
 pub mod Elements
 pub mod Refusals
-mod ValueKinds
-mod Values
 mod DateLaws
 mod DateLengths
-mod DateFields
-mod DayLaws
-mod DayElements
-mod Fours
-mod Held

@@ -1,5 +1,5 @@
 -- What the code tells of the bytes of a date or a time, and of a list of days.
-use Rattle.std.specs.Prelude.{ℕ, ◌≡◌, List, drop, Option, Some, None}
+use Rattle.std.specs.Prelude.{ℕ, ◌≡◌, List, drop, Option, Some, None, Result}
 use Rattle.std.proofs.Math.Option as M
 use Rattle.std.proofs.Math.Option.{none, some}
 use Rattle.document.specs.Posology as P
@@ -11,6 +11,7 @@ use Rattle.document.specs.Visit.{Value, needed}
 use Rattle.document.specs.At.{Slot}
 use Rattle.document.specs.declared.table.Date.{Date}
 use Rattle.document.specs.declared.terms.Used.{Used}
+use Rattle.document.specs.declared.refusal.Refusal.{Refusal}
 use Rattle.read_fields.specs.Fields.{CountsFrom}
 use Rattle.read_fields.specs.declared.field.Counted.{Counted}
 
@@ -27,5 +28,5 @@ IsTime bytes (Some s) = time_of bytes ≡ some s
 IsTime bytes None = time_of bytes ≡ none
 
 -- A set of days, as the table has it.
-abbrev pub ReadsDays : List ℕ → ℕ → ℕ → ℕ → Used → Counted → Type 0
+abbrev pub ReadsDays : List ℕ → ℕ → Option ℕ → ℕ → Used → Result Counted Refusal → Type 0
 ReadsDays text brace v most u r = (f : Found Value) → Slot text v f → CountsFrom text u (needed (a_list (days most)) (drop brace text) f) day_set r

@@ -1,375 +1,308 @@
-// The fields of an object: each by the place of its value, 0 where there is none, and the object's brace.
+// The fields of an object: each by the place of its value, where one stands, and the object's brace.
 ghost use Rattle.std.specs.Prelude.{◌≡◌, ◌≤◌, length, drop};
-ghost use Rattle.json_move.specs.Moving.{kind_of};
 ghost use Rattle.json_move.specs.Read.{written, decoded};
 ghost use Rattle.document_numbers.specs.Number.{integer_in, decimal_from};
 ghost use Rattle.document.specs.Schema.{integer, decimal};
 ghost use Rattle.document.specs.Visit.{is_empty};
 ghost use Rattle.document.specs.Date.{time_of};
 ghost use Rattle.read_fields.specs.Fields.{ReadsAt, ReadsNeeded, CountsAt, CountsNeeded, CountsOptional, CountsStill, CountsWithin, ReadsFlag, ObjectAt, ObjectNeeded, ListNeeded, ReadsText, ReadsOptionalText, TakesText, ReadsDate, ReadsTime, Inside};
-ghost use Rattle.read_fields.specs.Reading.{whole_at, millionths_at, roomed, is_object, is_array, is_text, is_number, is_null, DateAt, time_at};
+ghost use Rattle.read_fields.specs.Reading.{standing, Required, OfKind, unread as unread_at, roomed, LaidBytes, DateAt, time_at};
 
 use crate::date;
+use document::refusal::{Reason, Refusal};
 use document::table::Date;
 use document::terms;
 use document::terms::{Terms, Used};
-use document_numbers::{Decimal, Integer};
+use document_numbers::NumberError;
 use json_lay::Laid;
 use json_move::Kind;
 
-// A number, or the refusal with its place.
+// An integer, with what is taken behind it.
 #[derive(Clone, Copy)]
-pub enum Field {
-    Is(u64),
-    Refused(u8, usize),
+pub struct Counted {
+    pub value: u64,
+    pub used: Used,
 }
 
-// The place of a value of the kind that is asked for, or the refusal.
+// A string's quote and its length in decoded bytes, both 0 where it is absent as in the table, with what is taken behind it.
 #[derive(Clone, Copy)]
-pub enum Found {
-    At(usize),
-    Refused(u8, usize),
+pub struct Worded {
+    pub quote: usize,
+    pub len: usize,
+    pub used: Used,
 }
 
-// An integer, with what is taken behind it; or the refusal.
-#[derive(Clone, Copy)]
-pub enum Counted {
-    Is(u64, Used),
-    Refused(u8, usize),
-}
-
-// A string's quote and its length in decoded bytes, both 0 where it is absent, with what is taken behind it; or the refusal.
-#[derive(Clone, Copy)]
-pub enum Worded {
-    Is(usize, usize, Used),
-    Refused(u8, usize),
-}
-
-#[derive(Clone, Copy)]
-pub enum DateField {
-    Is(Date),
-    Refused(u8, usize),
-}
-
-// Whether the value at a place is of a kind.
-fn is_object(text: &[u8], v: usize) -> bool
-    ensures { result ≡ is_object (kind_of (drop v text.now)) }
+// The value of a field: null is none.
+fn present(text: &[u8], v: Option<usize>) -> Option<usize>
+    ensures { result ≡ standing text.now v }
 {
-    match json_move::kind_at(text, v) {
-        Kind::Object => true,
-        _ => false,
+    match v {
+        Some(at) if json_move::kind_at(text, at) != Kind::Null => v,
+        _ => None,
     }
 }
 
-fn is_array(text: &[u8], v: usize) -> bool
-    ensures { result ≡ is_array (kind_of (drop v text.now)) }
+// A value that must be there: 7.
+fn required(text: &[u8], brace: usize, v: Option<usize>) -> Result<usize, Refusal>
+    ensures { Required text.now brace v result }
 {
-    match json_move::kind_at(text, v) {
-        Kind::Array => true,
-        _ => false,
-    }
+    present(text, v).ok_or(Refusal(Reason::Missing, brace))
 }
 
-fn is_text(text: &[u8], v: usize) -> bool
-    ensures { result ≡ is_text (kind_of (drop v text.now)) }
+// A value of the kind that is asked for: 4.
+fn of_kind(text: &[u8], at: usize, kind: Kind) -> Result<usize, Refusal>
+    ensures { OfKind text.now at kind result }
 {
-    match json_move::kind_at(text, v) {
-        Kind::Text => true,
-        _ => false,
+    if json_move::kind_at(text, at) != kind {
+        return Err(Refusal(Reason::WrongKind, at));
     }
+    Ok(at)
 }
 
-fn is_number(text: &[u8], v: usize) -> bool
-    ensures { result ≡ is_number (kind_of (drop v text.now)) }
+// A number that cannot be taken: 8, 9.
+fn unread(at: usize, e: NumberError) -> Refusal
+    ensures { result ≡ unread_at at e }
 {
-    match json_move::kind_at(text, v) {
-        Kind::Number => true,
-        _ => false,
-    }
-}
-
-fn is_null(text: &[u8], v: usize) -> bool
-    ensures { result ≡ is_null (kind_of (drop v text.now)) }
-{
-    match json_move::kind_at(text, v) {
-        Kind::Null => true,
-        _ => false,
-    }
-}
-
-fn integer_read(text: &[u8], v: usize, least: u64, most: u64, used: Used) -> Counted
-    ensures { result ≡ whole_at v used (integer_in least most (written (drop v text.now))) }
-{
-    match document_numbers::integer_at(text, v, least, most) {
-        Integer::Whole(n, _) => Counted::Is(n, used),
-        Integer::NotCarried => Counted::Refused(8, v),
-        Integer::Outside => Counted::Refused(9, v),
+    match e {
+        NumberError::NotCarried => Refusal(Reason::NotCarried, at),
+        NumberError::Outside => Refusal(Reason::OutOfRange, at),
     }
 }
 
 // An integer in a list, or a field that is there: 4, 8, 9.
-pub(crate) fn integer_value(text: &[u8], v: usize, least: u64, most: u64, used: Used) -> Counted
-    ensures counts_at { CountsAt text.now v (integer least most) used result }
+pub(crate) fn integer_value(
+    text: &[u8],
+    at: usize,
+    least: u64,
+    most: u64,
+    used: Used,
+) -> Result<Counted, Refusal>
+    ensures counts_at { CountsAt text.now at (integer least most) used result }
     ensures counts_still { CountsStill used result }
     ensures counts_within { CountsWithin least most result }
 {
-    if !is_number(text, v) {
-        return Counted::Refused(4, v);
+    let at = of_kind(text, at, Kind::Number)?;
+    match document_numbers::integer_at(text, at, least, most) {
+        Ok(whole) => Ok(Counted {
+            value: whole.value,
+            used,
+        }),
+        Err(e) => Err(unread(at, e)),
     }
-    integer_read(text, v, least, most, used)
 }
 
 // An integer that must be there: 7, then as any.
 pub fn integer_field(
     text: &[u8],
     brace: usize,
-    v: usize,
+    v: Option<usize>,
     least: u64,
     most: u64,
     used: Used,
-) -> Counted
+) -> Result<Counted, Refusal>
     ensures counts_needed { brace ≤ length text.now → CountsNeeded text.now brace v (integer least most) used result }
     ensures counts_still { CountsStill used result }
     ensures counts_within { CountsWithin least most result }
 {
-    if v == 0 {
-        return Counted::Refused(7, brace);
-    }
-    if is_null(text, v) {
-        return Counted::Refused(7, brace);
-    }
-    integer_value(text, v, least, most, used)
+    let at = required(text, brace, v)?;
+    integer_value(text, at, least, most, used)
 }
 
 // An integer that may be absent, and counts `absent` then.
 pub fn optional_integer(
     text: &[u8],
-    v: usize,
+    v: Option<usize>,
     least: u64,
     most: u64,
     absent: u64,
     used: Used,
-) -> Counted
+) -> Result<Counted, Refusal>
     ensures counts_optional { CountsOptional text.now v (integer least most) absent used result }
     ensures counts_still { CountsStill used result }
 {
-    if v == 0 {
-        return Counted::Is(absent, used);
+    match present(text, v) {
+        Some(at) => integer_value(text, at, least, most, used),
+        None => Ok(Counted {
+            value: absent,
+            used,
+        }),
     }
-    if is_null(text, v) {
-        return Counted::Is(absent, used);
-    }
-    integer_value(text, v, least, most, used)
 }
 
-fn decimal_read(text: &[u8], v: usize, least: u64) -> Field
-    ensures { result ≡ millionths_at v (decimal_from least (written (drop v text.now))) }
+pub fn decimal_value(text: &[u8], at: usize, least: u64) -> Result<u64, Refusal>
+    ensures { ReadsAt text.now at (decimal least) result }
 {
-    match document_numbers::decimal_at(text, v, least) {
-        Decimal::Millionths(n) => Field::Is(n),
-        Decimal::NotCarried => Field::Refused(8, v),
-        Decimal::Outside => Field::Refused(9, v),
+    let at = of_kind(text, at, Kind::Number)?;
+    match document_numbers::decimal_at(text, at, least) {
+        Ok(millionths) => Ok(millionths),
+        Err(e) => Err(unread(at, e)),
     }
 }
 
-pub fn decimal_value(text: &[u8], v: usize, least: u64) -> Field
-    ensures { ReadsAt text.now v (decimal least) result }
-{
-    if !is_number(text, v) {
-        return Field::Refused(4, v);
-    }
-    decimal_read(text, v, least)
-}
-
-pub fn decimal_field(text: &[u8], brace: usize, v: usize, least: u64) -> Field
+pub fn decimal_field(
+    text: &[u8],
+    brace: usize,
+    v: Option<usize>,
+    least: u64,
+) -> Result<u64, Refusal>
     ensures { brace ≤ length text.now → ReadsNeeded text.now brace v (decimal least) result }
 {
-    if v == 0 {
-        return Field::Refused(7, brace);
-    }
-    if is_null(text, v) {
-        return Field::Refused(7, brace);
-    }
-    decimal_value(text, v, least)
+    let at = required(text, brace, v)?;
+    decimal_value(text, at, least)
 }
 
-// true is 1; false and an absent mark are 0.
-pub fn flag_field(text: &[u8], v: usize) -> Field
+// An absent mark is false.
+pub fn flag_field(text: &[u8], v: Option<usize>) -> Result<bool, Refusal>
     ensures { ReadsFlag text.now v result }
 {
-    if v == 0 {
-        return Field::Is(0);
-    }
-    match json_move::kind_at(text, v) {
-        Kind::True => Field::Is(1),
-        Kind::False => Field::Is(0),
-        Kind::Null => Field::Is(0),
-        Kind::Object => Field::Refused(4, v),
-        Kind::Array => Field::Refused(4, v),
-        Kind::Text => Field::Refused(4, v),
-        Kind::Number => Field::Refused(4, v),
+    let Some(at) = present(text, v) else {
+        return Ok(false);
+    };
+    match json_move::kind_at(text, at) {
+        Kind::True => Ok(true),
+        Kind::False => Ok(false),
+        _ => Err(Refusal(Reason::WrongKind, at)),
     }
 }
 
 // An object in a list: 4.
-pub fn object_value(text: &[u8], v: usize) -> Found
-    ensures object_at { ObjectAt text.now v result }
+pub fn object_value(text: &[u8], at: usize) -> Result<usize, Refusal>
+    ensures object_at { ObjectAt text.now at result }
     ensures inside { Inside text.now result }
 {
-    if !is_object(text, v) {
-        return Found::Refused(4, v);
-    }
-    Found::At(v)
+    of_kind(text, at, Kind::Object)
 }
 
 // An object that must be there: 7, 4.
-pub fn object_field(text: &[u8], brace: usize, v: usize) -> Found
+pub fn object_field(text: &[u8], brace: usize, v: Option<usize>) -> Result<usize, Refusal>
     ensures object_needed { brace ≤ length text.now → ObjectNeeded text.now brace v result }
     ensures inside { Inside text.now result }
 {
-    if v == 0 {
-        return Found::Refused(7, brace);
-    }
-    if is_null(text, v) {
-        return Found::Refused(7, brace);
-    }
-    object_value(text, v)
+    let at = required(text, brace, v)?;
+    object_value(text, at)
 }
 
 // A list that must be there: 7, 4.
-pub fn list_field(text: &[u8], brace: usize, v: usize) -> Found
+pub fn list_field(text: &[u8], brace: usize, v: Option<usize>) -> Result<usize, Refusal>
     ensures list_needed { brace ≤ length text.now → ListNeeded text.now brace v result }
     ensures inside { Inside text.now result }
 {
-    if v == 0 {
-        return Found::Refused(7, brace);
-    }
-    if is_null(text, v) {
-        return Found::Refused(7, brace);
-    }
-    if !is_array(text, v) {
-        return Found::Refused(4, v);
-    }
-    Found::At(v)
+    let at = required(text, brace, v)?;
+    of_kind(text, at, Kind::Array)
 }
 
 // What a string that is there and not empty comes to: 16.
-fn within_room(v: usize, n: usize, terms: Terms, used: Used) -> Worded
-    ensures { result ≡ roomed terms v n used }
+fn within_room(quote: usize, len: usize, terms: Terms, used: Used) -> Result<Worded, Refusal>
+    ensures { result ≡ roomed terms quote len used }
 {
-    if terms::room_left(terms, used) < n {
-        return Worded::Refused(16, v);
+    if terms::room_left(terms, used) < len {
+        return Err(Refusal(Reason::NoTextRoom, quote));
     }
-    let mut behind = used;
-    behind.text = used.text + n;
-    Worded::Is(v, n, behind)
+    let used = Used {
+        records: used.records,
+        text: used.text + len,
+    };
+    Ok(Worded { quote, len, used })
 }
 
 // A string that must be there: 7, 4, 16.
-pub fn text_field(text: &[u8], brace: usize, v: usize, terms: Terms, used: Used) -> Worded
+pub fn text_field(
+    text: &[u8],
+    brace: usize,
+    v: Option<usize>,
+    terms: Terms,
+    used: Used,
+) -> Result<Worded, Refusal>
     ensures reads_text { brace ≤ length text.now → ReadsText terms text.now brace v used result }
     ensures takes_text { TakesText terms used result }
 {
-    if v == 0 {
-        return Worded::Refused(7, brace);
+    let at = required(text, brace, v)?;
+    let quote = of_kind(text, at, Kind::Text)?;
+    let len = json_lay::decoded_length(text, quote);
+    if len == 0 {
+        return Err(Refusal(Reason::Missing, brace));
     }
-    if is_null(text, v) {
-        return Worded::Refused(7, brace);
-    }
-    if !is_text(text, v) {
-        return Worded::Refused(4, v);
-    }
-    let n = json_lay::decoded_length(text, v);
-    if n == 0 {
-        return Worded::Refused(7, brace);
-    }
-    within_room(v, n, terms, used)
+    within_room(quote, len, terms, used)
 }
 
 // A string that may be absent: 4, 16.
-pub fn optional_text(text: &[u8], v: usize, terms: Terms, used: Used) -> Worded
+pub fn optional_text(
+    text: &[u8],
+    v: Option<usize>,
+    terms: Terms,
+    used: Used,
+) -> Result<Worded, Refusal>
     ensures reads_optional_text { ReadsOptionalText terms text.now v used result }
     ensures takes_text { TakesText terms used result }
 {
-    if v == 0 {
-        return Worded::Is(0, 0, used);
+    let absent = Worded {
+        quote: 0,
+        len: 0,
+        used,
+    };
+    let Some(at) = present(text, v) else {
+        return Ok(absent);
+    };
+    let quote = of_kind(text, at, Kind::Text)?;
+    let len = json_lay::decoded_length(text, quote);
+    if len == 0 {
+        return Ok(absent);
     }
-    if is_null(text, v) {
-        return Worded::Is(0, 0, used);
-    }
-    if !is_text(text, v) {
-        return Worded::Refused(4, v);
-    }
-    let n = json_lay::decoded_length(text, v);
-    if n == 0 {
-        return Worded::Is(0, 0, used);
-    }
-    within_room(v, n, terms, used)
+    within_room(quote, len, terms, used)
 }
 
 // The longest date, yyyy-mm-ddThh:mm:ss+hh:mm.
 const DATE: usize = 25;
 
-fn date_read(text: &[u8], v: usize) -> DateField
-    ensures { DateAt v (decoded (drop v text.now)) result }
+// The decoded bytes of a string, in as many bytes as the longest date has, and their number.
+fn laid_bytes(text: &[u8], quote: usize) -> Option<([u8; DATE], usize)>
+    ensures { LaidBytes (decoded (drop quote text.now)) result }
 {
-    let mut bytes = [0u8; DATE];
-    let Laid::Behind(n) = json_lay::lay(text, v, &mut bytes, 0) else {
-        return DateField::Refused(13, v);
-    };
-    if n == 0 {
-        return DateField::Is(Date::Absent);
+    let mut bytes = [0; DATE];
+    match json_lay::lay(text, quote, &mut bytes, 0) {
+        Laid::Behind(len) => Some((bytes, len)),
+        Laid::NoRoom => None,
     }
-    match date::date_of(&bytes[..n]) {
-        Some(d) => DateField::Is(d),
-        None => DateField::Refused(13, v),
+}
+
+fn date_read(text: &[u8], quote: usize) -> Result<Date, Refusal>
+    ensures { DateAt quote (decoded (drop quote text.now)) result }
+{
+    let refusal = Refusal(Reason::NotADate, quote);
+    let (bytes, len) = laid_bytes(text, quote).ok_or(refusal)?;
+    if len == 0 {
+        return Ok(Date::Absent);
     }
+    date::date_of(&bytes[..len]).ok_or(refusal)
 }
 
 // A date that may be absent: 4, 13.
-pub fn date_field(text: &[u8], v: usize) -> DateField
+pub fn date_field(text: &[u8], v: Option<usize>) -> Result<Date, Refusal>
     ensures { ReadsDate text.now v result }
 {
-    if v == 0 {
-        return DateField::Is(Date::Absent);
-    }
-    if is_null(text, v) {
-        return DateField::Is(Date::Absent);
-    }
-    if !is_text(text, v) {
-        return DateField::Refused(4, v);
-    }
-    date_read(text, v)
+    let Some(at) = present(text, v) else {
+        return Ok(Date::Absent);
+    };
+    let quote = of_kind(text, at, Kind::Text)?;
+    date_read(text, quote)
 }
 
-fn time_read(text: &[u8], brace: usize, v: usize) -> Field
-    ensures { result ≡ time_at brace v (is_empty (decoded (drop v text.now))) (time_of (decoded (drop v text.now))) }
+fn time_read(text: &[u8], brace: usize, quote: usize) -> Result<u64, Refusal>
+    ensures { result ≡ time_at brace quote (is_empty (decoded (drop quote text.now))) (time_of (decoded (drop quote text.now))) }
 {
-    let mut bytes = [0u8; DATE];
-    let Laid::Behind(n) = json_lay::lay(text, v, &mut bytes, 0) else {
-        return Field::Refused(13, v);
-    };
-    if n == 0 {
-        return Field::Refused(7, brace);
+    let refusal = Refusal(Reason::NotADate, quote);
+    let (bytes, len) = laid_bytes(text, quote).ok_or(refusal)?;
+    if len == 0 {
+        return Err(Refusal(Reason::Missing, brace));
     }
-    match date::time_of(&bytes[..n]) {
-        Some(s) => Field::Is(s),
-        None => Field::Refused(13, v),
-    }
+    date::time_of(&bytes[..len]).ok_or(refusal)
 }
 
 // A time of day that must be there: 7, 4, 13.
-pub fn time_field(text: &[u8], brace: usize, v: usize) -> Field
+pub fn time_field(text: &[u8], brace: usize, v: Option<usize>) -> Result<u64, Refusal>
     ensures { brace ≤ length text.now → ReadsTime text.now brace v result }
 {
-    if v == 0 {
-        return Field::Refused(7, brace);
-    }
-    if is_null(text, v) {
-        return Field::Refused(7, brace);
-    }
-    if !is_text(text, v) {
-        return Field::Refused(4, v);
-    }
-    time_read(text, brace, v)
+    let at = required(text, brace, v)?;
+    let quote = of_kind(text, at, Kind::Text)?;
+    time_read(text, brace, quote)
 }
