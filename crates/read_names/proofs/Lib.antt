@@ -1,15 +1,15 @@
 -- What the proofs of several functions use.
 mod Packing
 mod Numbered
-mod Counting
+mod Naming
 mod Letters
-mod Hashing
 mod Turns
+mod Hashing
 mod Searching
-mod Table
+mod Entries
 mod Before
 mod Rest
-mod Slots
-mod Settling
+mod Slotted
+mod Members
 mod Tabling
 mod Unknowns

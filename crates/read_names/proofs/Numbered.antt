@@ -11,7 +11,7 @@ use Rattle.document.specs.Lookup.{same}
 use Rattle.json_grammar.proofs.Truth.{and_left, and_right}
 use Rattle.document.proofs.Same.{same_refl, same_equal}
 use Rattle.read_names.specs.Names.{names, name_at, index_in, index_of, pack, head_of, tail_of, Bytes, packed_in, short_index, Packs}
-use Rattle.read_names.specs.declared.Packed.{Packed}
+use Rattle.read_names.specs.declared.packed.Packed.{Packed}
 use Rattle.read_names.proofs.Packing.{names_apart}
 
 -- ---- by packed bytes

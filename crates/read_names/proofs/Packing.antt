@@ -10,7 +10,7 @@ use native.Mathlib.Nat.{mod-eq_of_lt}
 use native.Mathlib.Omega.{arith}
 use borrow.Author.Tests.{le-leb, lt-leb, leb-true}
 use Rattle.read_names.specs.Names.{pack, head_of, tail_of, Bytes, Packs}
-use Rattle.read_names.specs.declared.Packed.{Packed}
+use Rattle.read_names.specs.declared.packed.Packed.{Packed}
 
 -- ---- one byte more
 pack_one : (v : ℕ) (s : List ℕ) (b : ℕ) → pack v (s ++ b ∷ []) ≡ pack v s * 256 + b
@@ -56,9 +56,9 @@ length_one : (s : List ℕ) (b : ℕ) → length (s ++ b ∷ []) ≡ length s + 
 length_one s b = length-append s (b ∷ [])
 
 -- ---- the two numbers
-pub no_letter : Packs [] (record { head = 1; tail = 1 })
+pub no_letter : Packs [] (record { head = 1; tail = 1; letters = 0 })
 unfolding head_of tail_of pack
-no_letter = record { head = refl; tail = refl; small = tt }
+no_letter = record { head = refl; tail = refl; letters = refl; small = tt }
 
 tail_none : (s : List ℕ) → length s ≤ 7 → tail_of s ≡ 1
 unfolding tail_of pack
@@ -72,53 +72,45 @@ tail_over : (s : List ℕ) → 14 < length s → tail_of s ≡ 0
 unfolding tail_of
 tail_over s h = rw (lt-leb (length s) 14 h)
 
-module _ (p : Packed) (n b : ℕ) (small : b < 256) (name : List ℕ) (k : Packs name p) (size : length name ≡ n) where
-  longer : length (name ++ b ∷ []) ≡ n + 1
-  longer = length_one name b ∙ ap (λ x. x + 1) size
-
-  pub letter_first : (w : ℕ) → w ≡ b → n < 7 → Packs (name ++ b ∷ []) (record { head = p.head % 0x100000000000000 * 256 + w; tail = p.tail })
+module _ (p : Packed) (b : ℕ) (small : b < 256) (name : List ℕ) (k : Packs name p) where
+  pub letter_first : (w : ℕ) → w ≡ b → p.letters < 7 → Packs (name ++ b ∷ []) (record { head = p.head % 0x100000000000000 * 256 + w; tail = p.tail; letters = p.letters + 1 })
   unfolding head_of
   letter_first w e h =
-      let whole = take_all 7 name (omega (arith, size)) in
-      let all = take_all 7 (name ++ b ∷ []) (omega (arith, longer)) in
+      let few : length name < 7 = omega (arith, k.letters) in
+      let whole = take_all 7 name (omega arith) in
+      let all = take_all 7 (name ++ b ∷ []) (omega (arith, length_one name b)) in
       record {
-        head = rw (e, k.head, whole, all) (pack_on name b (bytes_all name k.small (omega (arith, size))) (omega (arith, size)));
-        tail = k.tail ∙ tail_none name (omega (arith, size)) ∙ sym (tail_none (name ++ b ∷ []) (omega (arith, longer)));
+        head = rw (e, k.head, whole, all) (pack_on name b (bytes_all name k.small (omega arith)) few);
+        tail = k.tail ∙ tail_none name (omega arith) ∙ sym (tail_none (name ++ b ∷ []) (omega (arith, length_one name b)));
+        letters = omega (arith, k.letters, length_one name b);
         small = bytes_one 14 name b k.small small;
       }
 
-  pub letter_second : (w : ℕ) → w ≡ b → 7 ≤ n → n < 14 → Packs (name ++ b ∷ []) (record { head = p.head; tail = p.tail % 0x100000000000000 * 256 + w })
+  pub letter_second : (w : ℕ) → w ≡ b → 7 ≤ p.letters → p.letters < 14 → Packs (name ++ b ∷ []) (record { head = p.head; tail = p.tail % 0x100000000000000 * 256 + w; letters = p.letters + 1 })
   unfolding head_of
   letter_second w e g h =
-      let far : 7 ≤ length name = omega (arith, size) in
-      let few : length (drop 7 name) < 7 = rw length-drop (omega (arith, size)) in
+      let far : 7 ≤ length name = omega (arith, k.letters) in
+      let near : length name < 14 = omega (arith, k.letters) in
+      let few : length (drop 7 name) < 7 = rw length-drop (omega arith) in
       record {
         head = k.head ∙ rw (take-append-le 7 name (b ∷ []) far);
         tail =
-            rw (e, k.tail, tail_some name (omega (arith, size)), tail_some (name ++ b ∷ []) (omega (arith, longer)), drop-append-le 7 name (b ∷ []) far)
-            (pack_on (drop 7 name) b (bytes_drop 7 name (bytes_all name k.small (omega (arith, size)))) few);
+            rw (e, k.tail, tail_some name (omega arith), tail_some (name ++ b ∷ []) (omega (arith, length_one name b)), drop-append-le 7 name (b ∷ []) far)
+            (pack_on (drop 7 name) b (bytes_drop 7 name (bytes_all name k.small (omega arith))) few);
+        letters = omega (arith, k.letters, length_one name b);
         small = bytes_one 14 name b k.small small;
       }
 
-  pub letter_over : 14 ≤ n → Packs (name ++ b ∷ []) (record { head = p.head; tail = 0 })
+  pub letter_over : 14 ≤ p.letters → Packs (name ++ b ∷ []) (record { head = p.head; tail = 0; letters = 15 })
   unfolding head_of
   letter_over h =
-      let far : 7 ≤ length name = omega (arith, size) in
+      let far : 14 ≤ length name = omega (arith, k.letters) in
       record {
-        head = k.head ∙ rw (take-append-le 7 name (b ∷ []) far);
-        tail = sym (tail_over (name ++ b ∷ []) (omega (arith, longer)));
+        head = k.head ∙ rw (take-append-le 7 name (b ∷ []) (omega arith));
+        tail = sym (tail_over (name ++ b ∷ []) (omega (arith, length_one name b)));
+        letters = omega (arith, length_one name b);
         small = bytes_one 14 name b k.small small;
       }
-
--- What comes behind the fifteenth letter changes nothing.
-pub packs_over : {name : List ℕ} {p : Packed} (more : List ℕ) → Packs name p → 14 < length name → Packs (name ++ more) p
-unfolding head_of
-packs_over {name} more k h =
-    record {
-      head = k.head ∙ rw (take-append-le 7 name more (omega arith));
-      tail = k.tail ∙ tail_over name h ∙ sym (tail_over (name ++ more) (simp length-append (omega arith)));
-      small = rw (take-append-le 14 name more (omega arith)) k.small;
-    }
 
 -- ---- apart: the same numbers are of the same bytes. From the last byte on:
 packed : List ℕ → ℕ

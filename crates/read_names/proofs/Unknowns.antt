@@ -2,12 +2,12 @@
 use Prim.Native.Nat.{ℕ, ◌+◌, ◌-◌, ◌<◌, ◌≤◌}
 use mathlib.Core.Path.{◌≡◌, refl, sym, ap, subst, ◌∙◌}
 use mathlib.Core.List.{List, [], ◌∷◌}
-use mathlib.Core.Bool.{Bool, true, false, cond, not, ◌&&◌, ◌||◌, false≢true}
+use mathlib.Core.Bool.{Bool, true, false, cond, not, ◌||◌, false≢true}
 use mathlib.Core.Option.{Option, none, some}
-use lib.ListN.{length, get_or, drop, length-drop, drop_of_length-le}
-use lib.Dec.{eqb, ltb, leb}
+use lib.ListN.{length, drop, length-drop, drop_of_length-le}
+use lib.Dec.{eqb, leb}
 use native.Mathlib.Omega.{arith}
-use borrow.Author.Tests.{eqb-true, eqb-false, eq-eqb, ne_eqb, ltb-true, leb-true, leb-false, not-true}
+use borrow.Author.Tests.{eqb-true, eqb-false, eq-eqb, ne_eqb, leb-true, leb-false, not-true}
 use Rattle.json_grammar.specs.Tree.{Place, Members, object}
 use Rattle.json_move.specs.Moving.{next_after, at_end, value_of as behind_name}
 use Rattle.json_move.specs.Read.{decoded, members_at}
@@ -16,32 +16,31 @@ use Rattle.document.specs.Lookup.{Entry, Found, nothing, same, has, find, unknow
 use Rattle.document.specs.Visit.{Value, entries_of}
 use Rattle.document.specs.At.{At, Slot, empty, filled}
 use Rattle.json_grammar.proofs.Truth.{and_left, and_right}
-use Rattle.read_names.specs.Names.{name_at, index_of, members_in, Once, row_names, is_in, is_row, stands, standing_of, Tells}
-use Rattle.read_names.specs.declared.Unknown.{Unknown}
+use Rattle.read_names.specs.Names.{spelled, index_of, members_in, Once, row_names, is_in, is_row, standing_of, Tells, number_of, place_of}
+use Rattle.read_names.specs.declared.names.Name.{Name}
+use Rattle.read_names.specs.declared.slots.Slots.{Slots}
+use Rattle.read_names.specs.declared.slots.Object.{Object}
+use Rattle.std.specs.Prelude.{Option as Place_or}
+use Rattle.std.specs.Option.{is_some}
+use Rattle.std.proofs.lemmas.List.Sums.{sum_by-cons}
+use Rattle.read_names.proofs.Naming.{number_small}
 use Rattle.read_names.proofs.Numbered.{named_same, same_named}
-use Rattle.read_names.proofs.Settling.{members_more, members_end, members_none}
+use Rattle.read_names.proofs.Members.{members_more, members_end, members_none}
 
 -- ---- a row's names by their numbers
-or_cond : (a b : Bool) → a || b ≡ cond a true b
-or_cond true b = refl
-or_cond false b = refl
-
-module _ (k : ℕ) (ks : List ℕ) (row : is_row (k ∷ ks) ≡ true) where
-  row_number : k < 33
-  row_number = ltb-true k 33 (and_left (ltb k 33) _ (and_left _ _ row))
-
-  row_once : is_in k ks ≡ false
-  row_once = not-true (is_in k ks) (and_right (ltb k 33) _ (and_left _ _ row))
+module _ (k : Name) (ks : List Name) (row : is_row (k ∷ ks) ≡ true) where
+  row_once : is_in (number_of k) ks ≡ false
+  row_once = not-true (is_in (number_of k) ks) (and_left _ _ row)
 
   row_rest : is_row ks ≡ true
-  row_rest = and_right (ltb k 33 && not (is_in k ks)) _ row
+  row_rest = and_right (not (is_in (number_of k) ks)) _ row
 
-pub row_has : (row : List ℕ) → is_row row ≡ true → (n : List ℕ) → has n (row_names row) ≡ is_in (index_of n) row
-row_has [] e n = refl
-row_has (k ∷ ks) e n = rw (same_named k (row_number k ks e) n, row_has ks (row_rest k ks e) n) (or_cond (eqb (index_of n) k) (is_in (index_of n) ks))
+pub row_has : (row : List Name) (n : List ℕ) → has n (row_names row) ≡ is_in (index_of n) row
+row_has [] n = refl
+row_has (k ∷ ks) n = rw (same_named (number_of k) (number_small k) n, row_has ks n)
 
 -- ---- the members gone through again
-module _ (row : List ℕ) (ok : is_row row ≡ true) (left : ℕ) (s : Place) where
+module _ (row : List Name) (left : ℕ) (s : Place) where
   abbrev rest : Option Place
   rest = unknown (row_names row) (entries_of (members_at left s))
 
@@ -56,11 +55,11 @@ module _ (row : List ℕ) (ok : is_row row ≡ true) (left : ℕ) (s : Place) wh
   module _ (h : 0 < left) (e : at_end s ≡ false) where
     pub unknown_here : not (is_in (index_of (decoded s)) row) ≡ true → rest ≡ some s
     unfolding entries_of
-    unknown_here f = rw (members_more left s h e, row_has row ok (decoded s), f)
+    unknown_here f = rw (members_more left s h e, row_has row (decoded s), f)
 
     pub unknown_on : not (is_in (index_of (decoded s)) row) ≡ false → unknown (row_names row) (entries_of (members_at (left - 1) (next_after (behind_name s)))) ≡ rest
     unfolding entries_of
-    unknown_on f = rw (members_more left s h e, row_has row ok (decoded s), f)
+    unknown_on f = rw (members_more left s h e, row_has row (decoded s), f)
 
 pub not_behind : (text : List ℕ) (q : ℕ) → at_end (drop q text) ≡ false → q ≤ length text
 unfolding at_end
@@ -106,54 +105,53 @@ named_none n (e ∷ es) h = go (same n e.name) refl (named_none n es)
     go true z f = let l : 1 + named n es ≡ 0 = rw z at h in absurd (omega arith)
     go false z f = let l : 0 + named n es ≡ 0 = rw z at h in rw z (f (omega arith))
 
-slot_none : {text : List ℕ} {v : ℕ} {f : Found Value} → Slot text v f → f ≡ nothing → v ≡ 0
+slot_none : {text : List ℕ} {o : Place_or ℕ} {f : Found Value} → Slot text o f → f ≡ nothing → is_some o ≡ false
 slot_none empty e = refl
-slot_none (filled p a) e = let z : ◌≡◌ {A = ℕ} 0 1 = cc in absurd (omega arith)
+slot_none (filled a) e = let z : ◌≡◌ {A = ℕ} 0 1 = cc in absurd (omega arith)
 
-stands_named : (text slots : List ℕ) (k : ℕ) (es : List (Entry Value)) → Slot text (get_or slots k 0) (find (name_at k) es) → stands slots k ≤ named (name_at k) es
-stands_named text slots k es s = go (ltb k 33) refl (eqb (get_or slots k 0) 0) refl
+stands_named : (text : List ℕ) (o : Place_or ℕ) (n : List ℕ) (es : List (Entry Value)) → Slot text o (find n es) → one_if (is_some o) ≤ named n es
+stands_named text o n es s = go (is_some o) refl
   where
-    go : (x : Bool) → ltb k 33 ≡ x → (y : Bool) → eqb (get_or slots k 0) 0 ≡ y → stands slots k ≤ named (name_at k) es
-    go false e y f = rw e (omega arith)
-    go true e true f = rw (e, f) (omega arith)
-    go true e false f = rw (e, f) (more (leb 1 (named (name_at k) es)) refl)
+    go : (x : Bool) → is_some o ≡ x → one_if (is_some o) ≤ named n es
+    go false e = rw e (omega arith)
+    go true e = rw e (more (leb 1 (named n es)) refl)
       where
-        more : (z : Bool) → leb 1 (named (name_at k) es) ≡ z → 1 ≤ named (name_at k) es
+        more : (z : Bool) → leb 1 (named n es) ≡ z → 1 ≤ named n es
         more true l = leb-true 1 _ l
         more false l =
-            let none : named (name_at k) es ≡ 0 = omega (arith, leb-false 1 (named (name_at k) es) l) in
-            let z = slot_none s (named_none (name_at k) es none) in
-            absurd (false≢true (sym f ∙ rw z))
+            let none : named n es ≡ 0 = omega (arith, leb-false 1 (named n es) l) in
+            absurd (false≢true (sym (slot_none s (named_none n es none)) ∙ e))
 
-module _ (k : ℕ) (ks : List ℕ) (row : is_row (k ∷ ks) ≡ true) where
-  one_row : (n : List ℕ) → one_if (same (name_at k) n) + one_if (has n (row_names ks)) ≤ one_if (same n (name_at k) || has n (row_names ks))
+module _ (k : Name) (ks : List Name) (row : is_row (k ∷ ks) ≡ true) where
+  one_row : (n : List ℕ) → one_if (same (spelled k) n) + one_if (has n (row_names ks)) ≤ one_if (same n (spelled k) || has n (row_names ks))
   one_row n =
-      rw (named_same k (row_number k ks row) n, same_named k (row_number k ks row) n, row_has ks (row_rest k ks row) n)
-      (go (eqb k (index_of n)) refl)
+      rw (named_same (number_of k) (number_small k) n, same_named (number_of k) (number_small k) n, row_has ks n)
+      (go (eqb (number_of k) (index_of n)) refl)
     where
-      go : (x : Bool) → eqb k (index_of n) ≡ x → one_if (eqb k (index_of n)) + one_if (is_in (index_of n) ks) ≤ one_if (eqb (index_of n) k || is_in (index_of n) ks)
+      go : (x : Bool) → eqb (number_of k) (index_of n) ≡ x
+          → one_if (eqb (number_of k) (index_of n)) + one_if (is_in (index_of n) ks) ≤ one_if (eqb (index_of n) (number_of k) || is_in (index_of n) ks)
       go true z =
-          let e = eqb-true k (index_of n) z in
+          let e = eqb-true (number_of k) (index_of n) z in
           let absent : is_in (index_of n) ks ≡ false = rw (← e) (row_once k ks row) in
-          rw (z, absent, eq-eqb (index_of n) k (sym e)) (omega arith)
-      go false z = rw (z, ne_eqb (index_of n) k (λ y. eqb-false k (index_of n) z (sym y))) (omega arith)
+          rw (z, absent, eq-eqb (index_of n) (number_of k) (sym e)) (omega arith)
+      go false z = rw (z, ne_eqb (index_of n) (number_of k) (λ y. eqb-false (number_of k) (index_of n) z (sym y))) (omega arith)
 
-  row_known : (es : List (Entry Value)) → named (name_at k) es + known (row_names ks) es ≤ known (row_names (k ∷ ks)) es
+  row_known : (es : List (Entry Value)) → named (spelled k) es + known (row_names ks) es ≤ known (row_names (k ∷ ks)) es
   row_known [] = omega arith
   row_known (e ∷ es) = omega (arith, one_row e.name, row_known es)
 
-module _ (text slots : List ℕ) (es : List (Entry Value)) (all : (i : ℕ) → i < 33 → Slot text (get_or slots i 0) (find (name_at i) es)) where
-  standing_known : (row : List ℕ) → is_row row ≡ true → standing_of slots row ≤ known (row_names row) es
+module _ (text : List ℕ) (slots : Slots) (es : List (Entry Value)) (all : (n : Name) → Slot text (place_of slots n) (find (spelled n) es)) where
+  standing_known : (row : List Name) → is_row row ≡ true → standing_of slots row ≤ known (row_names row) es
   standing_known [] e = omega arith
   standing_known (k ∷ ks) e =
-      omega (arith, stands_named text slots k es (all k (row_number k ks e)), standing_known ks (row_rest k ks e), row_known k ks e es)
+      omega (arith, sum_by-cons (λ n. one_if (is_some (place_of slots n))) k ks, stands_named text (place_of slots k) (spelled k) es (all k), standing_known ks (row_rest k ks e), row_known k ks e es)
 
-pub none_unknown : {text : List ℕ} {es : List (Entry Value)} {members : ℕ} {slots : List ℕ} (row : List ℕ) → is_row row ≡ true → Once text es members slots
-    → standing_of slots row ≡ members → unknown (row_names row) es ≡ none
-none_unknown {text} {es} {members} {slots} row ok o e = all_known (row_names row) es (omega (arith, standing_known text slots es o.slot row ok, o.count))
+pub none_unknown : {text : List ℕ} {es : List (Entry Value)} {o : Object} (row : List Name) → is_row row ≡ true → Once text es o
+    → standing_of o.slots row ≡ o.members → unknown (row_names row) es ≡ none
+none_unknown {text} {es} {o} row ok once e = all_known (row_names row) es (omega (arith, standing_known text o.slots es once.slot row ok, once.count))
 
 -- ---- of the object that stands there
-pub told_in : {text : List ℕ} {at : ℕ} {p : Place} {ms : Members} (row : List ℕ) (r : Unknown) → At text at (object p ms)
+pub told_in : {text : List ℕ} {at : ℕ} {p : Place} {ms : Members} (row : List Name) (r : Place_or ℕ) → At text at (object p ms)
     → Tells text (unknown (row_names row) (entries_of (members_in text (drop at text)))) r → Tells text (unknown (row_names row) (entries_of ms)) r
 unfolding members_in
 told_in {text} {at} row r a t =

@@ -1,17 +1,24 @@
 -- The names of document 01's members by number, and what one walk over an object's members settles.
-use Rattle.std.specs.Prelude.{ℕ, zero, suc, ◌+◌, ◌-◌, ◌*◌, ◌/◌, ◌%◌, ◌<◌, ◌≤◌, ◌≡◌, List, [], ◌∷◌, Bool, true, false, cond, ◌&&◌, not, length, drop, take, get_or, eqb, leb, ltb}
-use Rattle.std.proofs.Math.Option.{Option, none, some}
+use Rattle.std.specs.Prelude.{ℕ, zero, suc, ◌+◌, ◌-◌, ◌*◌, ◌/◌, ◌%◌, ◌<◌, ◌≤◌, ◌≡◌, List, [], ◌∷◌, ◌++◌, Bool, true, false, cond, ◌&&◌, not, length, drop, take, get_or, eqb, leb, min, Option, Some, None, Result, Ok, Err}
+use Rattle.std.specs.List.{list_any, count_by}
+use Rattle.std.specs.Option.{is_some}
+use Rattle.std.proofs.Math.Option.{Option as Maybe, none, some}
 use Rattle.json_grammar.specs.Tree.{Place, Members, object}
 use Rattle.json_move.specs.Moving.{first_in, next_after, value_of as behind_name}
 use Rattle.json_move.specs.Read.{decoded, members_at}
 use Rattle.document.specs.Bytes.{bytes}
-use Rattle.document.specs.Lookup.{Entry, same, has, find, repeated}
+use Rattle.document.specs.Lookup.{Entry, same, find, repeated}
 use Rattle.document.specs.Visit.{Value, entries_of}
 use Rattle.document.specs.At.{At, Slot}
-use Rattle.read_names.specs.declared.Packed.{Packed}
-use Rattle.read_names.specs.declared.Seen.{Seen}
-use Rattle.read_names.specs.declared.Unknown.{Unknown}
-use Rattle.read_names.specs.declared.Unknown.TheVariants.{None, At as AtQuote}
+use Rattle.read_names.specs.declared.names.Name.{Name}
+use Rattle.read_names.specs.declared.names.Name.TheVariants as N
+use Rattle.read_names.specs.declared.packed.Packed.{Packed}
+use Rattle.read_names.specs.declared.table.Hash.{Hash}
+use Rattle.read_names.specs.declared.table.Found.{Found}
+use Rattle.read_names.specs.declared.table.Found.TheVariants as F
+use Rattle.read_names.specs.declared.slots.Slots.{Slots}
+use Rattle.read_names.specs.declared.slots.Object.{Object}
+use Rattle.read_names.specs.declared.slots.Twice.{Twice}
 
 unfoldable pub names : List (List ℕ)
 names =
@@ -24,6 +31,49 @@ names =
 unfoldable pub name_at : ℕ → List ℕ
 unfolding names
 name_at i = get_or names i []
+
+abbrev pub number_of : Name → ℕ
+number_of N.T = 0
+number_of N.Ds = 1
+number_of N.Text = 2
+number_of N.Tdo = 3
+number_of N.CyDuU = 4
+number_of N.CyDu = 5
+number_of N.Tdpc = 6
+number_of N.Sos = 7
+number_of N.Do = 8
+number_of N.Ts = 9
+number_of N.Ss = 10
+number_of N.Wds = 11
+number_of N.Doms = 12
+number_of N.MiDu = 13
+number_of N.MiDuU = 14
+number_of N.A = 15
+number_of N.AFrom = 16
+number_of N.ATo = 17
+number_of N.DuU = 18
+number_of N.Du = 19
+number_of N.AMin = 20
+number_of N.AMax = 21
+number_of N.Po = 22
+number_of N.Dt = 23
+number_of N.S = 24
+number_of N.DtFrom = 25
+number_of N.DtTo = 26
+number_of N.InRes = 27
+number_of N.RelMeal = 28
+number_of N.Unit = 29
+number_of N.ApplInstr = 30
+number_of N.Roa = 31
+number_of N.Moa = 32
+
+-- 33 for none of the names.
+abbrev pub numbered : Option Name → ℕ
+numbered None = 33
+numbered (Some n) = number_of n
+
+abbrev pub spelled : Name → List ℕ
+spelled n = name_at (number_of n)
 
 -- The number of a name, or 33.
 abbrev pub index_in : List (List ℕ) → ℕ → List ℕ → ℕ
@@ -56,7 +106,12 @@ Bytes (b ∷ s) = (b < 256) × Bytes s
 pub record Packs (name : List ℕ) (p : Packed) : Type 0 where
   pub head : p.head ≡ head_of name
   pub tail : p.tail ≡ tail_of name
+  pub letters : p.letters ≡ min (length name) 15
   pub small : Bytes (take 14 name)
+
+-- The bytes are packed behind those of p.
+abbrev pub PacksOn : Packed → List ℕ → Packed → Type 0
+PacksOn p bytes q = (name : List ℕ) → Packs name p → Packs (name ++ bytes) q
 
 -- The number of a name by its packed bytes.
 abbrev pub packed_in : List (List ℕ) → ℕ → ℕ → ℕ → ℕ
@@ -79,12 +134,19 @@ unfoldable pub members_in : List ℕ → Place → Members
 unfolding members_at first_in
 members_in text s = members_at (length text) (first_in s)
 
+-- Where a slot says that a value stands: no value stands at 0, where the object's brace or what is before it is.
+abbrev pub place_in : ℕ → Option ℕ
+place_in zero = None
+place_in (suc v) = Some (suc v)
+
+abbrev pub place_of : Slots → Name → Option ℕ
+place_of slots n = place_in (get_or slots.places (number_of n) 0)
+
 -- No name stands twice, and the slots have them all.
-pub record Once (text : List ℕ) (es : List (Entry Value)) (members : ℕ) (slots : List ℕ) : Type 0 where
+pub record Once (text : List ℕ) (es : List (Entry Value)) (o : Object) : Type 0 where
   pub once : repeated [] es ≡ none
-  pub slot : (i : ℕ) → i < 33 → Slot text (get_or slots i 0) (find (name_at i) es)
-  pub count : members ≡ length es
-  pub size : length slots ≡ 33
+  pub slot : (n : Name) → Slot text (place_of o.slots n) (find (spelled n) es)
+  pub count : o.members ≡ length es
 
 -- A hash of two halves, byte by byte.
 abbrev low : ℕ → ℕ → ℕ → ℕ
@@ -96,6 +158,10 @@ hash_on seed h b = (h / 0x100000000 + low seed h b + seed / 0x100000000) % 0x100
 unfoldable pub hash_from : ℕ → ℕ → List ℕ → ℕ
 hash_from seed h [] = h
 hash_from seed h (b ∷ s) = hash_from seed (hash_on seed h b) s
+
+-- The bytes are hashed behind those of g.
+abbrev pub HashesOn : Hash → List ℕ → Hash → Type 0
+HashesOn g bytes h = (h.seed ≡ g.seed) × (h.hash ≡ hash_from g.seed g.hash bytes)
 
 -- A text's hash, its own seed, and the slot at which the search for a name starts.
 unfoldable pub hash_of : ℕ → List ℕ → ℕ
@@ -121,52 +187,38 @@ pub record Searched (seed : ℕ) (text n table : List ℕ) (r : ℕ) : Type 0 wh
   pub ends : r < 8192 → 0 < get_or table r 0 → same n (slot_name text table r) ≡ true
 
 -- A place from 65535 on has no room in a slot.
-pub record Sought (seed : ℕ) (text : List ℕ) (quote : ℕ) (table : List ℕ) (r : ℕ) : Type 0 where
-  pub near : quote < 65535 → Searched seed text (decoded (drop quote text)) table r
-  pub far : 65535 ≤ quote → r ≡ 8192
+abbrev pub Sought : ℕ → List ℕ → ℕ → List ℕ → Found → Type 0
+Sought seed text quote table F.Stands = (quote < 65535) × ((i : ℕ) × (i < 8192) × (0 < get_or table i 0) × Searched seed text (decoded (drop quote text)) table i)
+Sought seed text quote table (F.Free i) = (quote < 65535) × (i < 8192) × (get_or table i 0 ≡ 0) × Searched seed text (decoded (drop quote text)) table i
+Sought seed text quote table F.Nowhere = quote < 65535 → Searched seed text (decoded (drop quote text)) table 8192
 
--- Whether the name at `quote` stood before it in the object at `at`, where the search for it ended at slot i.
-abbrev pub stood_in : List ℕ → ℕ → ℕ → ℕ → List ℕ → ℕ → Bool
-stood_in text at members quote table i =
-    cond (ltb i 8192) (not (eqb (get_or table i 0) 0)) (has (decoded (drop quote text)) (names_from members (first_in (drop at text))))
-
-abbrev pub seen_once : ℕ → List ℕ → Seen
-seen_once members slots = record { twice = false; place = 0; members = members; slots = slots }
-
-abbrev pub seen_again : ℕ → ℕ → List ℕ → Seen
-seen_again place members slots = record { twice = true; place = place; members = members; slots = slots }
-
-pub record Settled (text : List ℕ) (es : List (Entry Value)) (seen : Seen) : Type 0 where
-  pub again : seen.twice ≡ true → (repeated [] es ≡ some (drop seen.place text)) × (seen.place ≤ length text)
-  pub settled : seen.twice ≡ false → Once text es seen.members seen.slots
+-- A name stands twice, the second time at a place; or none does.
+abbrev pub Settled : List ℕ → List (Entry Value) → Result Object Twice → Type 0
+Settled text es (Ok o) = Once text es o
+Settled text es (Err twice) = (repeated [] es ≡ some (drop twice.0 text)) × (twice.0 ≤ length text)
 
 -- Of every object that stands at a place.
-abbrev pub Settles : List ℕ → ℕ → Seen → Type 0
-Settles text at seen = (p : Place) (ms : Members) → At text at (object p ms) → Settled text (entries_of ms) seen
+abbrev pub Settles : List ℕ → ℕ → Result Object Twice → Type 0
+Settles text at r = (p : Place) (ms : Members) → At text at (object p ms) → Settled text (entries_of ms) r
 
--- The names of a row of numbers.
-abbrev pub row_names : List ℕ → List (List ℕ)
+abbrev pub row_names : List Name → List (List ℕ)
 row_names [] = []
-row_names (k ∷ ks) = name_at k ∷ row_names ks
+row_names (n ∷ ns) = spelled n ∷ row_names ns
 
--- A row holds numbers of names, none twice.
-abbrev pub is_in : ℕ → List ℕ → Bool
-is_in k [] = false
-is_in k (j ∷ js) = cond (eqb k j) true (is_in k js)
+-- Whether a number is that of a name in a row.
+abbrev pub is_in : ℕ → List Name → Bool
+is_in k ns = list_any (λ n. eqb k (number_of n)) ns
 
-abbrev pub is_row : List ℕ → Bool
+-- A row has no name twice.
+abbrev pub is_row : List Name → Bool
 is_row [] = true
-is_row (k ∷ ks) = ltb k 33 && not (is_in k ks) && is_row ks
+is_row (n ∷ ns) = not (is_in (number_of n) ns) && is_row ns
 
 -- How many of a row's names stand.
-abbrev pub stands : List ℕ → ℕ → ℕ
-stands slots k = cond (ltb k 33) (cond (eqb (get_or slots k 0) 0) 0 1) 0
-
-abbrev pub standing_of : List ℕ → List ℕ → ℕ
-standing_of slots [] = 0
-standing_of slots (k ∷ ks) = stands slots k + standing_of slots ks
+abbrev pub standing_of : Slots → List Name → ℕ
+standing_of slots ns = count_by (λ n. is_some (place_of slots n)) ns
 
 -- The first member whose name is not in the row.
-abbrev pub Tells : List ℕ → Option Place → Unknown → Type 0
+abbrev pub Tells : List ℕ → Maybe Place → Option ℕ → Type 0
 Tells text o None = o ≡ none
-Tells text o (AtQuote q) = (o ≡ some (drop q text)) × (q ≤ length text)
+Tells text o (Some q) = (o ≡ some (drop q text)) × (q ≤ length text)

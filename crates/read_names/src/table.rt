@@ -1,0 +1,110 @@
+// A table of names by their hashes.
+ghost use Rattle.std.specs.Prelude.{◌≡◌, ℕ, ◌%◌, length, drop};
+ghost use Rattle.json_move.specs.Read.{decoded};
+ghost use Rattle.read_names.specs.Names.{hash_on, hash_of, seed_of, first_slot, Sought};
+
+use crate::taking;
+use crate::taking::Takes;
+
+// The slots: 0 where there is none, else the name's place and one more.
+pub(crate) const TABLE: usize = 8192;
+
+// A place from here on has no room in a slot. Document 01's texts are at most half as long, though the run that one begins may be longer.
+const PLACES: usize = 65535;
+
+// One byte more in a hash of two halves: the low one is the middle of a product, so that names which differ in a digit or two do not start side by side.
+// The factor depends on the seed and on what came before: were it one for all, names that meet under one seed would often meet under another.
+fn hash_on(seed: u64, h: u64, b: u8) -> u64
+    ensures { result ≡ hash_on seed h b }
+{
+    let high = h / 0x100000000;
+    let factor = 0x80000000 + (seed % 0x100000000 + high) % 0x40000000;
+    let low = (h % 0x100000000 + u64::from(b) + 1) * factor / 0x10000 % 0x100000000;
+    (high + low + seed / 0x100000000) % 0x100000000 * 0x100000000 + low
+}
+
+#[derive(Clone, Copy)]
+pub(crate) struct Hash {
+    pub seed: u64,
+    pub hash: u64,
+}
+
+impl Takes for Hash {
+    ghost use Rattle.read_names.specs.Names.{HashesOn};
+    ghost use Rattle.read_names.specs.Taken.{hashes_none};
+
+    ghost took = { HashesOn };
+
+    ghost took_none = { hashes_none };
+
+    fn with(self, b: u8) -> Hash {
+        Hash {
+            seed: self.seed,
+            hash: hash_on(self.seed, self.hash, b),
+        }
+    }
+}
+
+fn no_byte(seed: u64) -> Hash
+    ensures { (result.seed ≡ seed) × (result.hash ≡ 0) }
+{
+    Hash {
+        seed: seed,
+        hash: 0,
+    }
+}
+
+// A text's hash. What lies behind the table's places is left out.
+fn hash_of(text: &[u8], seed: u64) -> u64
+    ensures { result ≡ hash_of seed text.now }
+{
+    taking::part(no_byte(seed), text, 0, text.len().min(PLACES)).hash
+}
+
+// The seed of the texts' own seeds: any number whose bits are mixed would do, as these of the golden ratio.
+const GOLDEN: u64 = 0x9E3779B97F4A7C15;
+
+// A text's own seed, so that names which meet in one slot have to be found anew for every text. It goes over the text twice, the second time
+// by what the first came to: else a text could be given the seed that its names were found for, from both its ends at once.
+pub(crate) fn seed_of(text: &[u8]) -> u64
+    ensures { result ≡ seed_of text.now }
+{
+    hash_of(text, hash_of(text, GOLDEN))
+}
+
+// Where the search for a name starts. The last slots are no start, so that few searches reach the end.
+fn first_slot(text: &[u8], quote: usize, seed: u64) -> usize
+    ensures { result ≡ first_slot seed (decoded (drop quote text.now)) }
+{
+    let start = no_byte(seed);
+    let h = match taking::plain(start, text, quote) {
+        Some((h, _)) => h,
+        None => taking::decoded(start, text, quote),
+    };
+    (h.hash % 8053) as usize
+}
+
+// Where the search for a name ends: at a slot that has it, at a free one, or where none is free behind its start or its place has no room in one.
+#[derive(Clone, Copy)]
+pub(crate) enum Found {
+    Stands,
+    Free(usize),
+    Nowhere,
+}
+
+pub(crate) fn look_up(text: &[u8], quote: usize, seed: u64, table: &[u16; TABLE]) -> Found
+    ensures { Sought seed text.now quote table.now result }
+{
+    if PLACES <= quote {
+        return Found::Nowhere;
+    }
+    for i in first_slot(text, quote, seed)..TABLE {
+        let Some(place) = table[i].checked_sub(1) else {
+            return Found::Free(i);
+        };
+        if json_same::names_same(text, quote, usize::from(place)) {
+            return Found::Stands;
+        }
+    }
+    Found::Nowhere
+}
