@@ -1,5 +1,5 @@
 -- The head's rows in the steps in which the code reads them, and what each step has to show.
-use Rattle.std.specs.Prelude.{ℕ, ◌+◌, ◌≤◌, ◌*◌, ◌≡◌, List, [], Bool, true, false, cond, eqb, length, drop, take}
+use Rattle.std.specs.Prelude.{ℕ, ◌+◌, ◌≤◌, ◌*◌, ◌≡◌, List, [], Bool, true, false, cond, eqb, length, drop, take, Option as Maybe, Result}
 use Rattle.std.proofs.Math.Option.{Option, get_or}
 use Rattle.json_grammar.specs.Tree.{Place}
 use Rattle.document.specs.Posology as P
@@ -19,6 +19,8 @@ use Rattle.document.specs.Words.{width, words_at_most}
 use Rattle.read_fields.specs.Fields.{WordsFrom}
 use Rattle.read_details.specs.Rows.{DetailRows}
 use Rattle.read_head.specs.Heads.{HeadReads}
+use Rattle.document.specs.declared.refusal.Refusal.{Refusal}
+use Rattle.read_names.specs.declared.slots.Object.{Object}
 use Rattle.read_fields.specs.declared.field.Worded.{Worded}
 use Rattle.read_records.specs.declared.read.Piece.{Piece}
 use Rattle.read_records.specs.declared.read.HeadRead.{HeadRead}
@@ -50,7 +52,7 @@ abbrev pub unit_read : Bool → Place → Found Value → State → Outcome (Opt
 unit_read true p f l = optional a_text p f l
 unit_read false p f l = present (needed a_text p f l)
 
-abbrev pub ReadsUnit : Terms → List ℕ → ℕ → ℕ → Used → Worded → Type 0
+abbrev pub ReadsUnit : Terms → List ℕ → ℕ → Maybe ℕ → Used → Result Worded Refusal → Type 0
 ReadsUnit terms text brace v u r = (f : Found Value) → Slot text v f → WordsFrom terms text u (unit_read (eqb terms.purpose 3) (drop brace text) f) (λ x. x) r
 
 abbrev pub no_piece : Piece
@@ -76,16 +78,16 @@ pub record Begun (u : Used) (text : List ℕ) (dt_from dt_to : Option P.Date) (i
   pub taken : h.used.text ≡ u.text + length (detail_strings po [])
   pub whole : length words ≡ words_at_most
 
-abbrev pub ReadsStrings : Terms → List ℕ → ℕ → List ℕ → HeadRead → HeadRead → Type 0
-ReadsStrings terms text at slots h r =
-    (es : List (Entry Value)) (n : ℕ) → Once text es n slots
+abbrev pub ReadsStrings : Terms → List ℕ → ℕ → Object → HeadRead → Result HeadRead Refusal → Type 0
+ReadsStrings terms text at o h r =
+    (es : List (Entry Value)) → Once text es o
     → (u : Used) (from to : Option P.Date) (reserve : Option Bool) (po : P.Detail) (meal : Option ℕ) (before words : List ℕ) → Begun u text from to reserve po meal h before words
     → (s : State) → Tells terms text h.used s
     → HeadReads terms text u before (fields (string_rows from to reserve po meal (eqb terms.purpose 3)) (drop at text) es s) r words
 
-abbrev pub ReadsFromDetail : Terms → List ℕ → ℕ → List ℕ → Date → Date → Bool → Used → List ℕ → HeadRead → List ℕ → Type 0
-ReadsFromDetail terms text at slots from to reserve u before r after =
-    (es : List (Entry Value)) (n : ℕ) → Once text es n slots
+abbrev pub ReadsFromDetail : Terms → List ℕ → ℕ → Object → Date → Date → Bool → Used → List ℕ → Result HeadRead Refusal → List ℕ → Type 0
+ReadsFromDetail terms text at o from to reserve u before r after =
+    (es : List (Entry Value)) → Once text es o
     → (x y : Option P.Date) (z : Option Bool) → date_cell x ≡ from → date_cell y ≡ to → get_or z false ≡ reserve
     → (s : State) → Tells terms text u s
     → HeadReads terms text u before (fields (po_rows (eqb terms.purpose 3) x y z) (drop at text) es s) r after

@@ -10,12 +10,9 @@ pub struct Piece {
     pub len: usize,
 }
 
-// A head as it is read, or the refusal.
+// A head as it is read.
 #[derive(Clone, Copy)]
 pub struct HeadRead {
-    pub refused: bool,
-    pub number: u8,
-    pub place: usize,
     pub from: Date,
     pub to: Date,
     pub reserve: bool,

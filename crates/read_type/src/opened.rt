@@ -1,106 +1,62 @@
-// An object as far as its type: names twice (6), then its t (7, 4, 8, 9).
-ghost use Rattle.std.specs.Prelude.{◌≡◌, ℕ, ◌<◌};
-ghost use Rattle.read_type.specs.Opens.{OpensTyped, OpensPlain, OpensStill};
+// An object as far as its type: names twice (6), then its t (7, 4, 8, 9); and names that are none of it (5).
+ghost use Rattle.std.specs.Prelude.{◌≡◌, true, ◌<◌};
+ghost use Rattle.json_grammar.specs.Tree.{Place, Members, object};
+ghost use Rattle.document.specs.Lookup.{unknown};
+ghost use Rattle.document.specs.Visit.{entries_of};
+ghost use Rattle.document.specs.At.{At};
+ghost use Rattle.read_names.specs.Names.{Once, is_row, row_names};
+ghost use Rattle.read_type.specs.Opens.{OpensTyped, OpensPlain, OpensStill, KnowsAll, type_slot};
 
+use document::refusal::{Reason, Refusal};
 use document::terms::Used;
 use read_fields::field;
-use read_fields::field::Counted;
-use read_names::{NAMES, T};
-use read_records::rows::Visit;
+use read_names::{Name, Object, Twice};
 
-// The refusal of a name that stands twice: before that of an unknown one.
-const TWICE: u8 = 6;
-
-// The object's type, 0 where it has none, with what is taken behind it; or the refusal.
+// An object's type, with what is taken behind it.
 #[derive(Clone, Copy)]
-pub enum Opened {
-    Is(u64, Used),
-    Refused(u8, usize),
-}
-
-// How many members there are, and where the value of each name stands.
-#[derive(Clone, Copy)]
-pub struct Object {
-    pub members: usize,
-    pub slots: [usize; NAMES],
-}
-
-// The object stands beside the answer, which is told apart without it.
-#[derive(Clone, Copy)]
-pub struct Opening {
-    pub answer: Opened,
+pub struct Opened {
+    pub kind: u64,
+    pub used: Used,
     pub object: Object,
 }
 
-pub fn refused(number: u8, place: usize) -> Opening
-    ensures { result.answer ≡ Opened.Refused number place }
+// An object without a type.
+pub fn open_plain(text: &[u8], at: usize) -> Result<Object, Refusal>
+    ensures { OpensPlain text.now at result }
 {
-    Opening {
-        answer: Opened::Refused(number, place),
-        object: Object {
-            members: 0,
-            slots: [0usize; NAMES],
-        },
-    }
-}
-
-// The refusal passed up.
-pub fn up(o: Opened) -> Visit
-    ensures { (n p : ℕ) → o ≡ Opened.Refused n p → result ≡ Visit.Refused n p }
-{
-    match o {
-        Opened::Is(_, _) => Visit::Refused(0, 0),
-        Opened::Refused(n, p) => Visit::Refused(n, p),
-    }
-}
-
-fn no_type(f: Counted) -> Opening
-    ensures { (n p : ℕ) → f ≡ Counted.Refused n p → result.answer ≡ Opened.Refused n p }
-{
-    match f {
-        Counted::Is(_, _) => refused(0, 0),
-        Counted::Refused(n, p) => refused(n, p),
+    match read_names::settle(text, at) {
+        Ok(object) => Ok(object),
+        Err(Twice(place)) => Err(Refusal(Reason::NameTwice, place)),
     }
 }
 
 // An object of a family with so many types. One of a family without types is opened by `open_plain`.
-pub fn open_typed(text: &[u8], at: usize, types: u64, used: Used) -> Opening
+pub fn open_typed(text: &[u8], at: usize, types: u64, used: Used) -> Result<Opened, Refusal>
     ensures opens_typed { 0 < types → OpensTyped types text.now at used result }
     ensures opens_still { OpensStill used result }
 {
-    let seen = read_names::settle(text, at);
-    if seen.twice {
-        return refused(TWICE, seen.place);
-    }
-    let slots = seen.slots;
-    let f = field::integer_field(text, at, slots[T], 1, types, used);
-    let Counted::Is(kind, behind) = f else {
-        return no_type(f);
-    };
-    Opening {
-        answer: Opened::Is(kind, behind),
-        object: Object {
-            members: seen.members,
-            slots: slots,
-        },
-    }
+    let object = open_plain(text, at)?;
+    let t = field::integer_field(text, at, object.slots.at(Name::T), 1, types, used)?;
+    Ok(Opened {
+        kind: t.value,
+        used: t.used,
+        object,
+    })
 }
 
-// An object without a type.
-pub fn open_plain(text: &[u8], at: usize, used: Used) -> Opening
-    ensures opens_plain { OpensPlain text.now at used result }
-    ensures opens_still { OpensStill used result }
+// Where the value of its t stands, 0 where there is none.
+pub fn type_place(o: &Object) -> usize
+    ensures { result ≡ type_slot o.now }
 {
-    let seen = read_names::settle(text, at);
-    if seen.twice {
-        return refused(TWICE, seen.place);
-    }
-    let slots = seen.slots;
-    Opening {
-        answer: Opened::Is(0, used),
-        object: Object {
-            members: seen.members,
-            slots: slots,
-        },
+    o.slots.at(Name::T).unwrap_or(0)
+}
+
+// Names that are none of the object's: 5.
+pub fn knows_all(text: &[u8], at: usize, object: &Object, known: &[Name]) -> Result<(), Refusal>
+    ensures { is_row known.now ≡ true → (p : Place) (ms : Members) → At text.now at (object p ms) → Once text.now (entries_of ms) object.now → KnowsAll text.now (unknown (row_names known.now) (entries_of ms)) result }
+{
+    match read_names::unknown_name(text, at, object, known) {
+        Some(quote) => Err(Refusal(Reason::UnknownName, quote)),
+        None => Ok(()),
     }
 }
