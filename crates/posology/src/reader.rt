@@ -6,14 +6,14 @@ ghost use Rattle.document.specs.Table.{empty_table, no_text};
 ghost use Rattle.document.specs.Valid.{room_of};
 ghost use Rattle.posology.specs.Reader.{Walked, words_values, words_table, WordsOf, ReadsWords};
 
+use document::refusal::Refusal;
 use document::table::{
-    Answer, Date, Head, Kind, RECORDS, Reading, Record, TEXT_ROOM, Table, Text, WORDS,
+    Date, Head, Kind, RECORDS, Reading, Record, TEXT_ROOM, Table, Text, WORDS,
 };
 use document::terms;
 use document::terms::Terms;
 use read_head::head;
 use read_records::read::HeadRead;
-use read_text::OneText;
 
 fn no_text() -> Text
     ensures { result ≡ no_text }
@@ -48,10 +48,7 @@ pub fn empty_table() -> Table
 fn room_of(strings: &[u8]) -> usize
     ensures { result ≡ room_of (length strings.now) }
 {
-    if strings.len() < TEXT_ROOM {
-        return strings.len();
-    }
-    TEXT_ROOM
+    strings.len().min(TEXT_ROOM)
 }
 
 // A text that was walked. The strings are laid after acceptance alone.
@@ -60,21 +57,18 @@ pub(crate) fn walked_words(
     purpose: u64,
     strings: &mut [u8],
     words: &mut [u64; WORDS],
-) -> HeadRead
+) -> Result<HeadRead, Refusal>
     requires { Walked text.now }
     ensures { WordsOf (read_walked (terms_of purpose strings.old) text.now) strings.old result words.new strings.new }
 {
     let brace = json_scan::byte::blanks_end(text, 0);
     let terms = Terms {
-        purpose: purpose,
+        purpose,
         room: room_of(strings),
     };
-    let h = head::read_head(text, brace, terms, terms::none_used(), words);
-    if h.refused {
-        return h;
-    }
+    let h = head::read_head(text, brace, terms, terms::none_used(), words)?;
     read_table::lay_strings(text, h, words, strings);
-    h
+    Ok(h)
 }
 
 // A text read as far as its head and the words of its records: of these a table is made, or the hospital's area.
@@ -83,31 +77,26 @@ pub fn read_words(
     purpose: u64,
     strings: &mut [u8],
     words: &mut [u64; WORDS],
-) -> HeadRead
+) -> Result<HeadRead, Refusal>
     ensures { ReadsWords purpose text.now strings.old result words.new strings.new }
 {
-    match read_text::one_text(text, purpose) {
-        OneText::Walked => walked_words(text, purpose, strings, words),
-        OneText::Refused(number, place) => head::refused(number, place),
-    }
+    read_text::one_text(text, purpose)?;
+    walked_words(text, purpose, strings, words)
 }
 
-fn reading_of(r: HeadRead, words: &[u64; WORDS]) -> Reading
+fn reading_of(r: Result<HeadRead, Refusal>, words: &[u64; WORDS]) -> Reading
     ensures answer_value { answer_values result.answer ≡ words_values r }
     ensures table_value { result.table ≡ words_table r words.now }
 {
-    if r.refused {
-        return Reading {
-            answer: Answer::Refused {
-                number: r.number,
-                place: r.place,
-            },
+    match r {
+        Ok(h) => Reading {
+            answer: Ok(()),
+            table: read_table::table_of(h, words),
+        },
+        Err(why) => Reading {
+            answer: Err(why),
             table: empty_table(),
-        };
-    }
-    Reading {
-        answer: Answer::Taken,
-        table: read_table::table_of(r, words),
+        },
     }
 }
 
@@ -115,6 +104,6 @@ pub fn read(text: &[u8], purpose: u64, strings: &mut [u8]) -> Reading
     ensures { Reads purpose text.now strings.old result strings.new }
 {
     let mut words = [0u64; WORDS];
-    let h = read_words(text, purpose, strings, &mut words);
-    reading_of(h, &words)
+    let r = read_words(text, purpose, strings, &mut words);
+    reading_of(r, &words)
 }
