@@ -13,7 +13,10 @@ use Rattle.json_grammar.specs.Walk.{Frame, Mode, top, Next, wrong, deep, ended, 
 use Rattle.json_grammar.proofs.Places.{place_of}
 use Rattle.document.specs.Answer.{text_at_most}
 use Rattle.read_text.specs.Texts.{not_ended, first_walked}
-use Rattle.read_text.specs.declared.FirstText.TheVariants as F
+use Rattle.std.specs.Prelude.{Ok, Err}
+use Rattle.document.specs.Refusals.{refusal}
+use Rattle.document.specs.declared.refusal.Reason.TheVariants.{TooLong, NotOneObject, TooDeep}
+use Rattle.document.specs.declared.table.Next.TheVariants as F
 
 -- ---- the walk of some bytes, and of these with others behind them
 -- What stays open at the end goes on in the bytes behind; all else is settled.
@@ -99,18 +102,18 @@ first_length (suc n) (b ∷ run) = let h = first_length n run in omega arith
 -- ---- the run's first text
 module _ (run : List ℕ) where
   -- the walk ends or is refused behind the first 32,768 bytes
-  beyond : (w : Walked) → text_at_most < length run → Leaves (length run - text_at_most) w → first_walked run w ≡ F.Refused 1 text_at_most
+  beyond : (w : Walked) → text_at_most < length run → Leaves (length run - text_at_most) w → first_walked run w ≡ Err (refusal TooLong text_at_most)
   beyond (end r) l h = rw (lt-leb (place_in run r) text_at_most (omega arith))
   beyond (refused2 p) l h = rw (lt-leb (length run) text_at_most l, le-ltb (place_in run p) text_at_most (omega arith))
   beyond (refused3 p) l h = rw (lt-leb (length run) text_at_most l, le-ltb (place_in run p) text_at_most (omega (arith, h.1)))
 
   module _ (place : ℕ) (inside : place ≤ length (take text_at_most run)) where
-    pub text_ends : first_object (take text_at_most run) ≡ end (drop place (take text_at_most run)) → first_walked run (first_object run) ≡ F.Ends place
+    pub text_ends : first_object (take text_at_most run) ≡ end (drop place (take text_at_most run)) → first_walked run (first_object run) ≡ Ok (F.Taken place)
     text_ends h =
         ap (first_walked run) (run_ends text_at_most run place h inside)
         ∙ rw (place_of run place (omega (arith, taken_length text_at_most run)), le-leb place text_at_most (omega (arith, first_length text_at_most run)))
 
-    pub text_deep : first_object (take text_at_most run) ≡ refused3 (drop place (take text_at_most run)) → first_walked run (first_object run) ≡ F.Refused 3 place
+    pub text_deep : first_object (take text_at_most run) ≡ refused3 (drop place (take text_at_most run)) → first_walked run (first_object run) ≡ Err (refusal TooDeep place)
     text_deep h =
         ap (first_walked run) (run_refused3 text_at_most run place h inside)
         ∙ rw (
@@ -119,16 +122,16 @@ module _ (run : List ℕ) where
           or-true,
         )
 
-    pub text_bad : first_object (take text_at_most run) ≡ refused2 (drop place (take text_at_most run)) → first_walked run (first_object run) ≡ not_ended 2 run place
+    pub text_bad : first_object (take text_at_most run) ≡ refused2 (drop place (take text_at_most run)) → first_walked run (first_object run) ≡ not_ended NotOneObject run place
     text_bad h = by (ltb place (length (take text_at_most run))) refl
       where
         open_on : (m : Mode) (k : List Frame) → first_object run ≡ walk m k (drop text_at_most run) → length (take text_at_most run) ≤ place
-            → (t : Bool) → leb (length run) text_at_most ≡ t → first_walked run (first_object run) ≡ not_ended 2 run place
+            → (t : Bool) → leb (length run) text_at_most ≡ t → first_walked run (first_object run) ≡ not_ended NotOneObject run place
         open_on m k g l true e =
             let d = drop_of_length-le run (leb-true (length run) text_at_most e) in
             let f = take_all text_at_most run (leb-true (length run) text_at_most e) in
             let q : length run - 0 ≡ place = omega (arith, ap length f) in
-            ap (first_walked run) (g ∙ ap (walk m k) d ∙ walk_none m k) ∙ ap (not_ended 2 run) q
+            ap (first_walked run) (g ∙ ap (walk m k) d ∙ walk_none m k) ∙ ap (not_ended NotOneObject run) q
         open_on m k g l false e =
             let b = leb-false (length run) text_at_most e in
             let n = length-take-le text_at_most run (omega arith) in
@@ -136,10 +139,10 @@ module _ (run : List ℕ) where
             ∙ beyond (walk m k (drop text_at_most run)) b (rw (length-drop text_at_most run) at (walk_leaves m k (drop text_at_most run)))
             ∙ sym (rw (lt-leb (length run) text_at_most b, le-ltb place text_at_most (omega arith)))
 
-        by : (t : Bool) → ltb place (length (take text_at_most run)) ≡ t → first_walked run (first_object run) ≡ not_ended 2 run place
+        by : (t : Bool) → ltb place (length (take text_at_most run)) ≡ t → first_walked run (first_object run) ≡ not_ended NotOneObject run place
         by true e =
             ap (first_walked run) (run_refused2 text_at_most run place h (ltb-true _ _ e))
-            ∙ ap (not_ended 2 run) (place_of run place (omega (arith, taken_length text_at_most run)))
+            ∙ ap (not_ended NotOneObject run) (place_of run place (omega (arith, taken_length text_at_most run)))
         by false e =
             let g = run_open text_at_most run place h (ltb-false _ _ e) in
             open_on g.0 g.1 g.2 (ltb-false _ _ e) (leb (length run) text_at_most) refl

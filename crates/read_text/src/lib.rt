@@ -3,42 +3,31 @@
 
 ghost use Rattle.std.specs.Prelude.{◌≡◌, take};
 ghost use Rattle.document.specs.Answer.{text_at_most};
+ghost use Rattle.document.specs.declared.refusal.Reason.TheVariants.{NotOneObject};
 ghost use Rattle.read_text.specs.Texts.{one_text, not_ended, first_text};
 
+use document::refusal::{Reason, Refusal};
+use document::table::Next;
 use document::uses::is_use;
 use json_scan::byte;
-use json_walk::End;
+use json_walk::Fault;
 
 const LONGEST: usize = 32768;
 
-// A text: one object, or refused.
-#[derive(Clone, Copy)]
-pub enum OneText {
-    Walked,
-    Refused(u8, usize),
-}
-
-// The first text of a run: it ends at a place, or only blanks remain, or it is refused.
-#[derive(Clone, Copy)]
-pub enum FirstText {
-    Ends(usize),
-    Blank(usize),
-    Refused(u8, usize),
-}
-
-pub fn one_text(text: &[u8], purpose: u64) -> OneText
+// A text is one object, or refused.
+pub fn one_text(text: &[u8], purpose: u64) -> Result<(), Refusal>
     ensures { result ≡ one_text purpose text.now }
 {
     if !is_use(purpose) {
-        return OneText::Refused(17, 0);
+        return Err(Refusal(Reason::WrongUse, 0));
     }
     if LONGEST < text.len() {
-        return OneText::Refused(1, LONGEST);
+        return Err(Refusal(Reason::TooLong, LONGEST));
     }
     match json_alone::one_object(text) {
-        End::At(_) => OneText::Walked,
-        End::Bad(p) => OneText::Refused(2, p),
-        End::Deep(p) => OneText::Refused(3, p),
+        Ok(_) => Ok(()),
+        Err(Fault::Broken(p)) => Err(Refusal(Reason::NotOneObject, p)),
+        Err(Fault::Deep(p)) => Err(Refusal(Reason::TooDeep, p)),
     }
 }
 
@@ -46,37 +35,32 @@ pub fn one_text(text: &[u8], purpose: u64) -> OneText
 fn begun(run: &[u8]) -> &[u8]
     ensures { result.now ≡ take text_at_most run.now }
 {
-    if run.len() <= LONGEST {
-        return run;
-    }
-    &run[..LONGEST]
+    &run[..run.len().min(LONGEST)]
 }
 
 // No text ends in the first 32,768 bytes, and they are walked up to p.
-fn not_ended(run: &[u8], p: usize) -> FirstText
-    ensures { result ≡ not_ended 2 run.now p }
+fn not_ended(run: &[u8], p: usize) -> Refusal
+    ensures { Err result ≡ not_ended NotOneObject run.now p }
 {
-    if p < LONGEST {
-        return FirstText::Refused(2, p);
+    if LONGEST < run.len() && LONGEST <= p {
+        return Refusal(Reason::TooLong, LONGEST);
     }
-    if LONGEST < run.len() {
-        return FirstText::Refused(1, LONGEST);
-    }
-    FirstText::Refused(2, p)
+    Refusal(Reason::NotOneObject, p)
 }
 
-pub fn first_text(run: &[u8], purpose: u64) -> FirstText
+// What a run begins with, or the refusal of its first text.
+pub fn first_text(run: &[u8], purpose: u64) -> Result<Next, Refusal>
     ensures { result ≡ first_text purpose run.now }
 {
     if !is_use(purpose) {
-        return FirstText::Refused(17, 0);
+        return Err(Refusal(Reason::WrongUse, 0));
     }
     if run.len() <= byte::blanks_end(run, 0) {
-        return FirstText::Blank(run.len());
+        return Ok(Next::Blank { length: run.len() });
     }
     match json_walk::first_object(begun(run)) {
-        End::At(e) => FirstText::Ends(e),
-        End::Bad(p) => not_ended(run, p),
-        End::Deep(p) => FirstText::Refused(3, p),
+        Ok(end) => Ok(Next::Taken { end }),
+        Err(Fault::Broken(p)) => Err(not_ended(run, p)),
+        Err(Fault::Deep(p)) => Err(Refusal(Reason::TooDeep, p)),
     }
 }
