@@ -1,28 +1,30 @@
--- What one byte does: brackets opened and shut, and what stands behind a value.
-use Prim.Native.Nat.{ℕ, zero, suc, ◌+◌, ◌-◌, ◌*◌, ◌/◌, ◌%◌, ◌<◌, ◌≤◌}
+-- What one byte does: brackets opened and shut.
+use Prim.Native.Nat.{ℕ, zero, suc, ◌+◌, ◌-◌, ◌/◌, ◌<◌, ◌≤◌}
 use mathlib.Core.Path.{◌≡◌, refl}
 use mathlib.Core.List.{List, ◌∷◌}
-use mathlib.Core.Bool.{Bool, true, false, cond}
-use lib.ListN.{drop}
+use mathlib.Core.Bool.{false}
+use lib.ListN.{length, get_or, drop}
 use lib.Dec.{eqb}
 use native.Mathlib.Numerals.{add-one, sub-one}
 use native.Mathlib.Omega.{arith}
 use borrow.Author.Tests.{lt-ltb, le-ltb}
+use Rattle.json_grammar.specs.Walk as W
+use Rattle.json_grammar.specs.Walk.{Frame, go, step, walk, end, refused2, refused3}
 use Rattle.json_grammar.specs.Rows.{choose}
 use Rattle.json_grammar.specs.Byte.{is_blank}
-use Rattle.json_grammar.specs.Walk as W
-use Rattle.json_grammar.specs.Walk.{Frame, a_list, an_object, go, step, step_behind, walk, end, refused2, refused3}
-use Rattle.json_walk.specs.Turn.{mode_of, kind, after_comma, closer_of, frames, steps}
-use Rattle.json_walk.specs.declared.Mode.{Mode}
-use Rattle.json_walk.specs.declared.Mode.TheVariants.{Value, Name}
-use Rattle.json_walk.proofs.Frames.{length_frames, frames_pushed, frames_top}
+use Rattle.json_walk.specs.Frames.{frame_of, closer_of, frames}
+use Rattle.json_walk.specs.Turn.{mode_of, after_comma, steps}
+use Rattle.json_walk.specs.declared.brackets.Bracket.{Bracket}
+use Rattle.json_walk.specs.declared.brackets.Bracket.TheVariants.{Square, Curly}
+use Rattle.json_walk.proofs.Walks.{walk_at}
+use Rattle.json_walk.proofs.Frames.{length_frames}
 
 module _ (text : List ℕ) (at : ℕ) where
-  module _ (mode : Mode) (d n bit : ℕ) where
-    pub opens : d < 20 → bit < 2 → steps text at (W.opened (kind bit) (mode_of mode) (frames d n)) ≡ walk (mode_of mode) (frames (d + 1) (n * 2 + bit)) (drop (at + 1) text)
-    opens h l = rw (length_frames, lt-ltb d 20 h, frames_pushed d n bit l, add-one)
+  module _ (f : Frame) (m : W.Mode) (d n : ℕ) where
+    pub opens : {k : List Frame} → d < 20 → k ≡ f ∷ frames d n → steps text at (W.opened f m (frames d n)) ≡ walk m k (drop (at + 1) text)
+    opens h e = rw (length_frames, lt-ltb d 20 h, e, add-one)
 
-    pub too_deep_lem : 20 ≤ d → steps text at (W.opened (kind bit) (mode_of mode) (frames d n)) ≡ refused3 (drop at text)
+    pub too_deep_lem : 20 ≤ d → steps text at (W.opened f m (frames d n)) ≡ refused3 (drop at text)
     too_deep_lem h = rw (length_frames, le-ltb d 20 h)
 
   pub shuts_none : (d n : ℕ) → d ≡ 0 → steps text at (W.shut (frames d n)) ≡ refused2 (drop at text)
@@ -42,13 +44,11 @@ module _ (text : List ℕ) (at : ℕ) where
   shuts (suc zero) n h = absurd (omega arith)
   shuts (suc (suc d)) n h = rw (add-one, sub-one (suc (suc d)))
 
-pub behind_full : (b d n : ℕ) → 0 < d → is_blank b ≡ false
-    → step W.behind b (frames d n)
-    ≡ choose (eqb b 44) (λ _. go (mode_of (after_comma n)) (frames d n)) λ _. choose (eqb b (closer_of n)) (λ _. W.shut (frames d n)) λ _. W.wrong
+-- behind a value, in a bracket
+pub behind_in : (text : List ℕ) (at : ℕ) → at < length text → (f : Bracket) {o k : List Frame} → o ≡ frame_of f ∷ k → is_blank (get_or text at 0) ≡ false
+    → walk W.behind o (drop at text)
+    ≡ steps text at (choose (eqb (get_or text at 0) 44) (λ _. go (mode_of (after_comma f)) o) λ _.
+    choose (eqb (get_or text at 0) (closer_of f)) (λ _. W.shut o) λ _. W.wrong)
 unfolding step
-behind_full b d n full blank = rw (frames_top d n full) (by (eqb (n % 2) 0) (frames (d - 1) (n / 2)))
-  where
-    by : (t : Bool) (k : List Frame) → step_behind b (cond t a_list an_object ∷ k)
-        ≡ choose (eqb b 44) (λ _. go (mode_of (cond t Value Name)) (cond t a_list an_object ∷ k)) λ _. choose (eqb b (cond t 93 125)) (λ _. W.shut (cond t a_list an_object ∷ k)) λ _. W.wrong
-    by true k = rw blank
-    by false k = rw blank
+behind_in text at h Square e blank = rw (walk_at text at h W.behind _, e, blank)
+behind_in text at h Curly e blank = rw (walk_at text at h W.behind _, e, blank)

@@ -1,12 +1,14 @@
 -- The walk over a part at a time, over blanks, and over one byte.
-use Prim.Native.Nat.{ℕ, suc, ◌<◌}
-use mathlib.Core.Path.{◌≡◌, refl, sym, ap, ◌∙◌}
+use Prim.Native.Nat.{ℕ, suc, ◌<◌, ◌≤◌}
+use mathlib.Core.Path.{◌≡◌, refl, ap, ◌∙◌}
+use mathlib.Core.Logic.{◌⊎◌, inl, inr}
 use mathlib.Core.List.{List, [], ◌∷◌}
 use mathlib.Core.Bool.{Bool, true, false, false≢true}
 use lib.ListN.{length, get_or, drop}
 use lib.Seq.{drop-cons}
 use lib.Dec.{eqb}
 use native.Mathlib.Omega.{arith}
+use Rattle.std.specs.Prelude.{Option, Some, None, Result, Ok, Err, IsErrAnd}
 use borrow.Author.Tests.{ne_eqb, eqb-true}
 use Rattle.json_grammar.specs.Rows.{choose}
 use Rattle.json_grammar.specs.Byte.{is_blank, blanked}
@@ -16,23 +18,21 @@ use Rattle.json_grammar.specs.Number.{onward, may_end}
 use Rattle.json_grammar.specs.Part.{Stop, past, torn, string_stop, number_stop, word_stop, Stops}
 use Rattle.json_grammar.specs.Walk as W
 use Rattle.json_grammar.specs.Walk.{Frame, a_list, an_object, Next, go, onto, step, step_chars, walk, Walked, end, refused2}
-use Rattle.json_walk.specs.Turn.{mode_of, frames, Open, steps, behind_part, plain_stop, behind_quoted, closes_empty, takes_value, Byte, Turned}
+use Rattle.json_walk.specs.Turn.{mode_of, open_in, steps, plain_stop, behind_quoted, closes_empty, Refused, Tells, Turned}
 use Rattle.json_grammar.specs.declared.string.InString.{InString}
 use Rattle.json_grammar.specs.declared.string.InString.TheVariants.{Plain}
 use Rattle.json_grammar.specs.declared.string.CharStep.{CharStep}
 use Rattle.json_grammar.specs.declared.string.CharStep.TheVariants.{Goes, Closes, Refuses}
 use Rattle.json_grammar.specs.declared.number.InNumber.{InNumber}
 use Rattle.json_grammar.specs.declared.number.InNumber.TheVariants.{Start}
-use Rattle.json_grammar.specs.declared.number.DigitStep.{DigitStep}
-use Rattle.json_grammar.specs.declared.number.DigitStep.TheVariants.{Onward, Over}
-use Rattle.json_grammar.specs.declared.part.Part.{Part}
-use Rattle.json_grammar.specs.declared.part.Part.TheVariants.{Past, Torn}
+use Rattle.json_grammar.specs.declared.part.Torn.{Torn}
 use Rattle.json_walk.specs.declared.Mode.{Mode}
 use Rattle.json_walk.specs.declared.Mode.TheVariants.{Value, FirstElement, FirstName, Name, Colon, Behind}
 use Rattle.json_walk.specs.declared.Walk.{Walk}
-use Rattle.json_walk.specs.declared.Turn.TheVariants.{Go}
-use Rattle.json_walk.specs.declared.Quoted.TheVariants.{Then, NoString}
-use Rattle.json_grammar.proofs.Passes.{Passes, passes_none, passes_on}
+use Rattle.json_walk.specs.declared.Step.{Step}
+use Rattle.json_walk.specs.declared.Fault.{Fault}
+use Rattle.json_walk.specs.declared.Fault.TheVariants.{Broken}
+use Rattle.json_grammar.proofs.Passes.{Passes, passes_none}
 use Rattle.json_scan.proofs.Blanks.{blank_goes, blank_stays, blanked_none}
 use Rattle.json_scan.proofs.Strings.{string_goes, string_closes, string_refuses, string_none}
 use Rattle.json_number.proofs.Digits.{number_goes, number_ends, number_none}
@@ -58,10 +58,20 @@ abbrev pub stopped : Stop → (List ℕ → Walked) → Walked
 stopped (past r) f = f r
 stopped (torn p) f = refused2 p
 
-pub part_turns : (text : List ℕ) (at : ℕ) {d n : ℕ} (w : Stop) (part : Part) (mode : Mode) → Open d n → Stops text (suc at) w part
-    → Turned text at (stopped w (walk (mode_of mode) (frames d n))) (behind_part part mode d n)
-part_turns text at w (Past e) mode o s = (rw s.0, s.1, s.2, o)
-part_turns text at w (Torn p) mode o s = (rw s.0, s.1)
+-- the code goes on behind it, or the byte that breaks it is refused
+pub part_goes : (text : List ℕ) (at e : ℕ) (w : Stop) (m : W.Mode) (k : List Frame) → Stops text (suc at) w (Ok e)
+    → (stopped w (walk m k) ≡ walk m k (drop e text)) × (at < e) × (e ≤ length text)
+part_goes text at e w m k s = (rw s.0, s.1, s.2)
+
+pub part_breaks : (text : List ℕ) (at : ℕ) (t : Torn) (w : Stop) (f : List ℕ → Walked) (r : Result Step Fault) → Stops text (suc at) w (Err t)
+    → IsErrAnd r (λ fault. fault ≡ Broken t.0) → Turned text at (stopped w f) r
+part_breaks text at t w f (Err fault) s e = rw e (rw s.0, s.1)
+part_breaks text at t w f (Ok step) s e = absurd e
+
+-- a refusal is handed on
+pub refuses : (text : List ℕ) (g : Fault) (r : Result ℕ Fault) {w u : Walked} → u ≡ w → Refused text w g → IsErrAnd r (λ fault. fault ≡ g) → Tells text u r
+refuses text g (Err fault) q h e = rw (e, q) h
+refuses text g (Ok x) q h e = absurd e
 
 module _ (inside : InString → W.Mode) (out : W.Mode) (is : (c : InString) (b : ℕ) (k : List Frame) → step (inside c) b k ≡ step_chars inside out (after c b) k) where
   chars_walk : (c : InString) (k : List Frame) (s : List ℕ) → walk (inside c) k s ≡ stopped (string_stop c s) (walk out k)
@@ -87,15 +97,15 @@ unfolding step
 number_walk n k [] = by (may_end n) refl
   where
     by : (t : Bool) → may_end n ≡ t → walk (W.in_number n) k [] ≡ stopped (number_stop n []) (walk W.behind k)
-    by true g = rw (number_none n true g, walk_none, walk_none)
-    by false g = rw (number_none n false g, walk_none)
+    by true g = rw (number_none n, g, walk_none, walk_none)
+    by false g = rw (number_none n, g, walk_none)
 number_walk n k (b ∷ s) = by (onward n b) refl (may_end n) refl (λ m. number_walk m k s)
   where
-    by : (x : DigitStep) → onward n b ≡ x → (t : Bool) → may_end n ≡ t → ((m : InNumber) → walk (W.in_number m) k s ≡ stopped (number_stop m s) (walk W.behind k))
+    by : (x : Option InNumber) → onward n b ≡ x → (t : Bool) → may_end n ≡ t → ((m : InNumber) → walk (W.in_number m) k s ≡ stopped (number_stop m s) (walk W.behind k))
         → walk (W.in_number n) k (b ∷ s) ≡ stopped (number_stop n (b ∷ s)) (walk W.behind k)
-    by (Onward m) e t g more = rw (walk_one, e, number_goes n b e s) (more m)
-    by Over e true g more = rw (walk_one, e, g, number_ends n b true e g s, walk_one)
-    by Over e false g more = rw (walk_one, e, g, number_ends n b false e g s)
+    by (Some m) e t g more = rw (walk_one, e, number_goes n b e s) (more m)
+    by None e true g more = rw (walk_one, e, number_ends n b e s, g, walk_one)
+    by None e false g more = rw (walk_one, e, number_ends n b e s, g)
 
 -- a test that picks both the byte's step and where the part ends
 choice : (b : ℕ) (s : List ℕ) (k : List Frame) (t : Bool) (x y : Unit {0} → Next) (v w : Unit {0} → Stop)
@@ -120,10 +130,10 @@ plain_walk b s k n₁ n₂ n₃ =
     (choice b s k (eqb b 102) _ _ _ _ (word_walk 97 (108 ∷ 115 ∷ 101 ∷ []) k s)
     (choice b s k (eqb b 110) _ _ _ _ (word_walk 117 (108 ∷ 108 ∷ []) k s) (by (onward Start b) refl))))
   where
-    by : (x : DigitStep) → onward Start b ≡ x
+    by : (x : Option InNumber) → onward Start b ≡ x
         → onward_from b s (W.digits (onward Start b) k) ≡ stopped (number_stop Start (b ∷ s)) (walk W.behind k)
-    by (Onward m) e = rw (e, number_goes Start b e s) (number_walk m k s)
-    by Over e = rw (e, number_ends Start b false e refl s)
+    by (Some m) e = rw (e, number_goes Start b e s) (number_walk m k s)
+    by None e = rw (e, number_ends Start b e s)
 
 pub plain_at : (text : List ℕ) (at : ℕ) → at < length text → (k : List Frame)
     → (get_or text at 0 ≡ 34 → ⊥) → (get_or text at 0 ≡ 123 → ⊥) → (get_or text at 0 ≡ 91 → ⊥)
@@ -164,47 +174,36 @@ mode_stays Behind b (a_list ∷ k) e = rw e
 mode_stays Behind b (an_object ∷ k) e = rw e
 
 -- ---- the byte at a place, by the mode there
-then_is : {m n : Mode} → Then m ≡ Then n → m ≡ n
-then_is e = cc
-
-no_then : {n : Mode} → NoString ≡ Then n → ⊥
-no_then e = let z : ◌≡◌ {A = ℕ} 0 1 = cc in absurd (omega arith)
-
-abbrev apart : Mode → Bool
-apart Value = true
-apart FirstElement = true
-apart FirstName = true
-apart Name = true
-apart Colon = false
-apart Behind = false
+some_is : {m n : Mode} → Some m ≡ Some n → m ≡ n
+some_is e = cc
 
 module _ (text : List ℕ) (at : ℕ) (h : at < length text) (mode : Mode) (k : List Frame) where
   abbrev here : ℕ
   here = get_or text at 0
 
   -- a quote
-  pub quote_begins : {next : Mode} → here ≡ 34 → behind_quoted mode ≡ Then next
+  pub quote_begins : {next : Mode} → here ≡ 34 → behind_quoted mode ≡ Some next
       → walk (mode_of mode) k (drop at text) ≡ stopped (string_stop Plain (drop (suc at) text)) (walk (mode_of next) k)
   unfolding step
   quote_begins {next} q e = rw (walk_at text at h (mode_of mode) k, q) (by mode e)
     where
-      by : (m : Mode) → behind_quoted m ≡ Then next → steps text at (step (mode_of m) 34 k) ≡ stopped (string_stop Plain (drop (suc at) text)) (walk (mode_of next) k)
-      by Value e = rw (← then_is e) (string_walk k (drop (suc at) text))
-      by FirstElement e = rw (← then_is e) (string_walk k (drop (suc at) text))
-      by FirstName e = rw (← then_is e) (name_walk k (drop (suc at) text))
-      by Name e = rw (← then_is e) (name_walk k (drop (suc at) text))
-      by Colon e = absurd (no_then e)
-      by Behind e = absurd (no_then e)
+      by : (m : Mode) → behind_quoted m ≡ Some next → steps text at (step (mode_of m) 34 k) ≡ stopped (string_stop Plain (drop (suc at) text)) (walk (mode_of next) k)
+      by Value e = rw (← some_is e) (string_walk k (drop (suc at) text))
+      by FirstElement e = rw (← some_is e) (string_walk k (drop (suc at) text))
+      by FirstName e = rw (← some_is e) (name_walk k (drop (suc at) text))
+      by Name e = rw (← some_is e) (name_walk k (drop (suc at) text))
+      by Colon e = cc
+      by Behind e = cc
 
-  pub quote_wrong : here ≡ 34 → behind_quoted mode ≡ NoString → walk (mode_of mode) k (drop at text) ≡ refused2 (drop at text)
+  pub quote_wrong : here ≡ 34 → behind_quoted mode ≡ None → walk (mode_of mode) k (drop at text) ≡ refused2 (drop at text)
   unfolding step
   quote_wrong q e = rw (walk_at text at h (mode_of mode) k, q) (by mode k e)
     where
-      by : (m : Mode) (k : List Frame) → behind_quoted m ≡ NoString → steps text at (step (mode_of m) 34 k) ≡ refused2 (drop at text)
-      by Value k e = absurd (no_then (sym e))
-      by FirstElement k e = absurd (no_then (sym e))
-      by FirstName k e = absurd (no_then (sym e))
-      by Name k e = absurd (no_then (sym e))
+      by : (m : Mode) (k : List Frame) → behind_quoted m ≡ None → steps text at (step (mode_of m) 34 k) ≡ refused2 (drop at text)
+      by Value k e = cc
+      by FirstElement k e = cc
+      by FirstName k e = cc
+      by Name k e = cc
       by Colon k e = refl
       by Behind [] e = refl
       by Behind (a_list ∷ k) e = refl
@@ -223,47 +222,48 @@ module _ (text : List ℕ) (at : ℕ) (h : at < length text) (mode : Mode) (k : 
         by Colon e = absurd (false≢true e)
         by Behind e = absurd (false≢true e)
 
-  module _ (byte : Byte mode here) where
-    pub value_begins : takes_value mode ≡ true → walk (mode_of mode) k (drop at text) ≡ steps text at (W.begin here k)
+  module _ (blank : is_blank here ≡ false) (quote : here ≡ 34 → ⊥) (full : closes_empty mode here ≡ false) where
+    pub value_begins : (mode ≡ Value) ⊎ (mode ≡ FirstElement) → walk (mode_of mode) k (drop at text) ≡ steps text at (W.begin here k)
     unfolding step
-    value_begins e = rw (walk_at text at h (mode_of mode) k) (by mode e byte.closes)
+    value_begins e = rw (walk_at text at h (mode_of mode) k) (by mode e full)
       where
-        by : (m : Mode) → takes_value m ≡ true → closes_empty m here ≡ false → steps text at (step (mode_of m) here k) ≡ steps text at (W.begin here k)
-        by Value e n = rw byte.blank
-        by FirstElement e n = rw (byte.blank, n)
-        by FirstName e n = absurd (false≢true e)
-        by Name e n = absurd (false≢true e)
-        by Colon e n = absurd (false≢true e)
-        by Behind e n = absurd (false≢true e)
+        by : (m : Mode) → (m ≡ Value) ⊎ (m ≡ FirstElement) → closes_empty m here ≡ false → steps text at (step (mode_of m) here k) ≡ steps text at (W.begin here k)
+        by Value e n = rw blank
+        by FirstElement e n = rw (blank, n)
+        by FirstName (inl e) n = cc
+        by FirstName (inr e) n = cc
+        by Name (inl e) n = cc
+        by Name (inr e) n = cc
+        by Colon (inl e) n = cc
+        by Colon (inr e) n = cc
+        by Behind (inl e) n = cc
+        by Behind (inr e) n = cc
 
     -- neither a colon nor a comma may stand here
-    pub name_wrong : apart mode ≡ true → takes_value mode ≡ false → walk (mode_of mode) k (drop at text) ≡ refused2 (drop at text)
+    pub name_wrong : (mode ≡ FirstName) ⊎ (mode ≡ Name) → walk (mode_of mode) k (drop at text) ≡ refused2 (drop at text)
     unfolding step
-    name_wrong a e = rw (walk_at text at h (mode_of mode) k) (by mode a e byte.closes)
+    name_wrong e = rw (walk_at text at h (mode_of mode) k) (by mode e full)
       where
-        by : (m : Mode) → apart m ≡ true → takes_value m ≡ false → closes_empty m here ≡ false → steps text at (step (mode_of m) here k) ≡ refused2 (drop at text)
-        by Value a e n = absurd (false≢true (sym e))
-        by FirstElement a e n = absurd (false≢true (sym e))
-        by FirstName a e n = rw (byte.blank, ne_eqb here 34 byte.quote, n)
-        by Name a e n = rw (byte.blank, ne_eqb here 34 byte.quote)
-        by Colon a e n = absurd (false≢true a)
-        by Behind a e n = absurd (false≢true a)
+        by : (m : Mode) → (m ≡ FirstName) ⊎ (m ≡ Name) → closes_empty m here ≡ false → steps text at (step (mode_of m) here k) ≡ refused2 (drop at text)
+        by FirstName e n = rw (blank, ne_eqb here 34 quote, n)
+        by Name e n = rw (blank, ne_eqb here 34 quote)
+        by Value (inl e) n = cc
+        by Value (inr e) n = cc
+        by FirstElement (inl e) n = cc
+        by FirstElement (inr e) n = cc
+        by Colon (inl e) n = cc
+        by Colon (inr e) n = cc
+        by Behind (inl e) n = cc
+        by Behind (inr e) n = cc
 
 -- ---- inside the text's own brace, which was at the place before `start`
-pub record Inside (text : List ℕ) (start at : ℕ) (mode : Mode) (d n : ℕ) : Type 0 where
-  pub passes : Passes (walk (mode_of mode) (frames d n)) (walk W.first_name (an_object ∷ [])) text start at
-  pub opens : Open d n
+abbrev pub Inside : List ℕ → ℕ → Walk → Type 0
+Inside text start here = Passes (walk (mode_of here.mode) (open_in here.brackets)) (walk W.first_name (an_object ∷ [])) text start here.at
 
--- The rest behind the blanks at `at`, which end at `i`, is walked as the code's turn there says.
-module _ {text : List ℕ} {start at i : ℕ} {mode : Mode} {d n : ℕ} (stands : Inside text start at mode d n) (v : Moves blanked text at i) where
-  pub inside_blanks : Passes (walk (mode_of mode) (frames d n)) (walk W.first_name (an_object ∷ [])) text start i
-  inside_blanks = blanks_passed (mode_of mode) (mode_stays mode) (frames d n) stands.passes v
-
-  pub inside_goes : (t : Walk) → Turned text i (walk (mode_of mode) (frames d n) (drop i text)) (Go t) → Inside text start t.at t.mode t.depth t.kinds
-  inside_goes t h = record { passes = passes_on inside_blanks h.0 h.1 h.2; opens = h.3 }
-
-  pub inside_ends : {w : Walked} → walk (mode_of mode) (frames d n) (drop i text) ≡ w → walk W.first_name (an_object ∷ []) (drop start text) ≡ w
-  inside_ends e = sym inside_blanks.same ∙ e
+-- The rest behind the blanks at a place is walked as from there.
+pub inside_blanks : {text : List ℕ} {start i : ℕ} (here : Walk) → Inside text start here → Moves blanked text here.at i
+    → Inside text start (record here { at = i })
+inside_blanks here p v = blanks_passed (mode_of here.mode) (mode_stays here.mode) (open_in here.brackets) p v
 
 -- ---- the text's own brace
 pub top_blanks : {text : List ℕ} {r : ℕ} → Moves blanked text 0 r → Passes (walk W.top []) (walk W.top []) text 0 r

@@ -6,22 +6,34 @@ ghost use Rattle.json_grammar.specs.Byte.{is_blank};
 ghost use Rattle.json_grammar.specs.Part.{word_stop, Stops};
 ghost use Rattle.json_grammar.specs.Walk.{walk, an_object, first_object};
 ghost use Rattle.json_grammar.specs.Walk as W;
-ghost use Rattle.json_walk.specs.Turn.{mode_of, kind, after_comma, closer_of, frames, Open, steps, behind_part, plain_stop, behind_quoted, closes_empty, takes_value, Byte, Turned, Tells};
+ghost use Rattle.json_walk.specs.declared.Fault.TheVariants.{Broken};
+ghost use Rattle.json_walk.specs.Frames.{frame_of};
+ghost use Rattle.json_walk.specs.Turn.{mode_of, open_in, steps, walk_from, plain_stop, behind_quoted, after_comma, closes_empty, Turned, Tells};
 
-use json_grammar::part::Part;
+mod brackets;
+
+use brackets::{Bracket, Brackets};
+use json_grammar::part::Torn;
 use json_scan::{byte, string};
 
-// The place behind the object; or refusal 2, or refusal 3, with its place.
-#[derive(Clone, Copy)]
-pub enum End {
-    At(usize),
-    Bad(usize),
-    Deep(usize),
+// Why a text is refused, with the place (document 01, rows 2 and 3).
+#[derive(Clone, Copy, Debug, PartialEq, Eq)]
+pub enum Fault {
+    Broken(usize), // it goes on as no JSON does
+    Deep(usize), // one bracket too many is open
+}
+
+impl From<Torn> for Fault {
+    ghost from_gives = { λ torn fault. fault ≡ Broken torn.0 };
+
+    fn from(torn: Torn) -> Fault {
+        Fault::Broken(torn.0)
+    }
 }
 
 // What may stand next, blanks aside.
 #[derive(Clone, Copy)]
-pub enum Mode {
+enum Mode {
     Value,
     FirstElement,
     FirstName,
@@ -30,318 +42,228 @@ pub enum Mode {
     Behind,
 }
 
-// The walk at a place: so many brackets are open, and `kinds` has a bit for each, 1 for a brace, the innermost lowest.
+// The walk at a place.
 #[derive(Clone, Copy)]
-pub struct Walk {
-    pub at: usize,
-    pub mode: Mode,
-    pub depth: usize,
-    pub kinds: u64,
+struct Walk {
+    at: usize,
+    mode: Mode,
+    brackets: Brackets,
 }
 
-// The mode behind a string, where one may stand.
+// Where the walk comes to: it goes on, or the text's own brace is closed, and this is the place behind it.
 #[derive(Clone, Copy)]
-pub enum Quoted {
-    Then(Mode),
-    NoString,
-}
-
-#[derive(Clone, Copy)]
-pub enum Turn {
+enum Step {
     Go(Walk),
     End(usize),
-    Bad(usize),
-    Deep(usize),
 }
 
-// Document 01, row 3: at most so many brackets are open at once.
-const LEVELS: usize = 20;
-
-// On behind a part, or the byte that breaks it.
-fn past(part: Part, mode: Mode, depth: usize, kinds: u64) -> Turn
-    ensures { result ≡ behind_part part mode depth kinds }
+// One more bracket.
+fn opened(text: &[u8], here: Walk, bracket: Bracket, mode: Mode) -> Result<Step, Fault>
+    requires { here.at < length text.now }
+    ensures { Turned text.now here.at (steps text.now here.at (W.opened (frame_of bracket) (mode_of mode) (open_in here.brackets))) result }
 {
-    match part {
-        Part::Past(e) => Turn::Go(Walk {
-            at: e,
-            mode: mode,
-            depth: depth,
-            kinds: kinds,
-        }),
-        Part::Torn(p) => Turn::Bad(p),
-    }
+    let Some(brackets) = here.brackets.opened(bracket) else {
+        return Err(Fault::Deep(here.at));
+    };
+    Ok(Step::Go(Walk {
+        at: here.at + 1,
+        mode,
+        brackets,
+    }))
 }
 
-// One more bracket, at `at`.
-fn opened(text: &[u8], at: usize, mode: Mode, depth: usize, kinds: u64, bit: u64) -> Turn
-    requires { (at < length text.now) × Open depth kinds × (bit < 2) }
-    ensures { Turned text.now at (steps text.now at (W.opened (kind bit) (mode_of mode) (frames depth kinds))) result }
+// The innermost bracket is closed.
+fn shut(text: &[u8], here: Walk) -> Result<Step, Fault>
+    requires { here.at < length text.now }
+    ensures { Turned text.now here.at (steps text.now here.at (W.shut (open_in here.brackets))) result }
 {
-    if depth < LEVELS {
-        return Turn::Go(Walk {
-            at: at + 1,
-            mode: mode,
-            depth: depth + 1,
-            kinds: kinds * 2 + bit,
-        });
+    match here.brackets.depth {
+        0 => Err(Fault::Broken(here.at)),
+        1 => Ok(Step::End(here.at + 1)),
+        _ => Ok(Step::Go(Walk {
+            at: here.at + 1,
+            mode: Mode::Behind,
+            brackets: here.brackets.closed(),
+        })),
     }
-    Turn::Deep(at)
-}
-
-// The innermost bracket is closed at `at`.
-fn shut(text: &[u8], at: usize, depth: usize, kinds: u64) -> Turn
-    requires { (at < length text.now) × Open depth kinds }
-    ensures { Turned text.now at (steps text.now at (W.shut (frames depth kinds))) result }
-{
-    if depth == 0 {
-        return Turn::Bad(at);
-    }
-    if depth == 1 {
-        return Turn::End(at + 1);
-    }
-    Turn::Go(Walk {
-        at: at + 1,
-        mode: Mode::Behind,
-        depth: depth - 1,
-        kinds: kinds / 2,
-    })
 }
 
 // The place behind the letters of `word`, which begin at `at`.
-fn word_end(text: &[u8], at: usize, word: &[u8]) -> Part
+fn word_end(text: &[u8], at: usize, word: &[u8]) -> Result<usize, Torn>
     requires { at ≤ length text.now }
     ensures { Stops text.now at (word_stop word.now (drop at text.now)) result }
 {
-    let mut i = at;
-    let mut k = 0;
-    while k < word.len() {
-        if text.len() <= i {
-            return Part::Torn(text.len());
+    for (k, letter) in word.iter().enumerate() {
+        let i = at + k;
+        if i == text.len() || text[i] != *letter {
+            return Err(Torn(i));
         }
-        if text[i] != word[k] {
-            return Part::Torn(i);
-        }
-        i += 1;
-        k += 1;
     }
-    Part::Past(i)
+    Ok(at + word.len())
 }
 
 // true, false, null or a number.
-fn plain_end(text: &[u8], at: usize) -> Part
+fn plain_end(text: &[u8], at: usize) -> Result<usize, Torn>
     requires { at < length text.now }
     ensures { Stops text.now (suc at) (plain_stop (drop at text.now)) result }
 {
-    let b = text[at];
-    if b == b't' {
-        return word_end(text, at + 1, b"rue");
+    match text[at] {
+        b't' => word_end(text, at + 1, b"rue"),
+        b'f' => word_end(text, at + 1, b"alse"),
+        b'n' => word_end(text, at + 1, b"ull"),
+        _ => json_number::number_end(text, at),
     }
-    if b == b'f' {
-        return word_end(text, at + 1, b"alse");
-    }
-    if b == b'n' {
-        return word_end(text, at + 1, b"ull");
-    }
-    json_number::number_end(text, at)
 }
 
 // The first byte of a value that is no string.
-fn begin(text: &[u8], at: usize, depth: usize, kinds: u64) -> Turn
-    requires { (at < length text.now) × (get_or text.now at 0 ≡ 34 → ⊥) × Open depth kinds }
-    ensures { Turned text.now at (steps text.now at (W.begin (get_or text.now at 0) (frames depth kinds))) result }
+fn begin(text: &[u8], here: Walk) -> Result<Step, Fault>
+    requires { (here.at < length text.now) × (get_or text.now here.at 0 ≡ 34 → ⊥) }
+    ensures { Turned text.now here.at (steps text.now here.at (W.begin (get_or text.now here.at 0) (open_in here.brackets))) result }
 {
-    let b = text[at];
-    if b == b'{' {
-        return opened(text, at, Mode::FirstName, depth, kinds, 1);
+    match text[here.at] {
+        b'{' => opened(text, here, Bracket::Curly, Mode::FirstName),
+        b'[' => opened(text, here, Bracket::Square, Mode::FirstElement),
+        _ => {
+            let at = plain_end(text, here.at)?;
+            Ok(Step::Go(Walk {
+                at,
+                mode: Mode::Behind,
+                ..here
+            }))
+        }
     }
-    if b == b'[' {
-        return opened(text, at, Mode::FirstElement, depth, kinds, 0);
-    }
-    past(plain_end(text, at), Mode::Behind, depth, kinds)
 }
 
-// What stands behind a string that begins in a mode.
-fn behind_string(mode: Mode) -> Quoted
+// What stands behind a string that begins in a mode, where one may.
+fn behind_string(mode: Mode) -> Option<Mode>
     ensures { result ≡ behind_quoted mode }
 {
     match mode {
-        Mode::Value => Quoted::Then(Mode::Behind),
-        Mode::FirstElement => Quoted::Then(Mode::Behind),
-        Mode::FirstName => Quoted::Then(Mode::Colon),
-        Mode::Name => Quoted::Then(Mode::Colon),
-        Mode::Colon => Quoted::NoString,
-        Mode::Behind => Quoted::NoString,
+        Mode::Value | Mode::FirstElement => Some(Mode::Behind),
+        Mode::FirstName | Mode::Name => Some(Mode::Colon),
+        Mode::Colon | Mode::Behind => None,
     }
 }
 
 // A quote: a string or a name begins.
-fn string_at(text: &[u8], at: usize, mode: Mode, depth: usize, kinds: u64) -> Turn
-    requires { (at < length text.now) × (get_or text.now at 0 ≡ 34) × Open depth kinds }
-    ensures { Turned text.now at (walk (mode_of mode) (frames depth kinds) (drop at text.now)) result }
+fn string_at(text: &[u8], here: Walk) -> Result<Step, Fault>
+    requires { (here.at < length text.now) × (get_or text.now here.at 0 ≡ 34) }
+    ensures { Turned text.now here.at (walk_from text.now here) result }
 {
-    match behind_string(mode) {
-        Quoted::Then(next) => past(string::string_end(text, at + 1), next, depth, kinds),
-        Quoted::NoString => Turn::Bad(at),
-    }
+    let Some(mode) = behind_string(here.mode) else {
+        return Err(Fault::Broken(here.at));
+    };
+    let at = string::string_end(text, here.at + 1)?;
+    Ok(Step::Go(Walk { at, mode, ..here }))
 }
 
 // Whether a byte closes the empty list or object that may end here.
 fn closes_empty(mode: Mode, b: u8) -> bool
     ensures { result ≡ closes_empty mode b }
 {
-    match mode {
-        Mode::Value => false,
-        Mode::FirstElement => b == b']',
-        Mode::FirstName => b == b'}',
-        Mode::Name => false,
-        Mode::Colon => false,
-        Mode::Behind => false,
-    }
+    matches!(
+        (mode, b),
+        (Mode::FirstElement, b']') | (Mode::FirstName, b'}')
+    )
 }
 
-fn takes_value(mode: Mode) -> bool
-    ensures { result ≡ takes_value mode }
+fn colon(text: &[u8], here: Walk) -> Result<Step, Fault>
+    requires { (here.at < length text.now) × (is_blank (get_or text.now here.at 0) ≡ false) }
+    ensures { Turned text.now here.at (walk W.colon (open_in here.brackets) (drop here.at text.now)) result }
 {
-    match mode {
-        Mode::Value => true,
-        Mode::FirstElement => true,
-        Mode::FirstName => false,
-        Mode::Name => false,
-        Mode::Colon => false,
-        Mode::Behind => false,
+    if text[here.at] != b':' {
+        return Err(Fault::Broken(here.at));
     }
-}
-
-fn colon(text: &[u8], at: usize, depth: usize, kinds: u64) -> Turn
-    requires { (at < length text.now) × (is_blank (get_or text.now at 0) ≡ false) × Open depth kinds }
-    ensures { Turned text.now at (walk W.colon (frames depth kinds) (drop at text.now)) result }
-{
-    if text[at] == b':' {
-        return Turn::Go(Walk {
-            at: at + 1,
-            mode: Mode::Value,
-            depth: depth,
-            kinds: kinds,
-        });
-    }
-    Turn::Bad(at)
+    Ok(Step::Go(Walk {
+        at: here.at + 1,
+        mode: Mode::Value,
+        ..here
+    }))
 }
 
 // What a comma leads to, by the innermost bracket.
-fn after_comma(kinds: u64) -> Mode
-    ensures { result ≡ after_comma kinds }
+fn after_comma(innermost: Bracket) -> Mode
+    ensures { result ≡ after_comma innermost }
 {
-    if kinds % 2 == 0 {
-        return Mode::Value;
+    match innermost {
+        Bracket::Square => Mode::Value,
+        Bracket::Curly => Mode::Name,
     }
-    Mode::Name
 }
 
-// The byte that closes the innermost bracket.
-fn closer(kinds: u64) -> u8
-    ensures { result ≡ closer_of kinds }
+// Behind a value: a comma, or the bracket that closes the innermost.
+fn behind(text: &[u8], here: Walk) -> Result<Step, Fault>
+    requires { (here.at < length text.now) × (is_blank (get_or text.now here.at 0) ≡ false) }
+    ensures { Turned text.now here.at (walk W.behind (open_in here.brackets) (drop here.at text.now)) result }
 {
-    if kinds % 2 == 0 {
-        return b']';
-    }
-    b'}'
-}
-
-// Behind a value.
-fn behind(text: &[u8], at: usize, depth: usize, kinds: u64) -> Turn
-    requires { (at < length text.now) × (is_blank (get_or text.now at 0) ≡ false) × Open depth kinds }
-    ensures { Turned text.now at (walk W.behind (frames depth kinds) (drop at text.now)) result }
-{
-    if depth == 0 {
-        return Turn::Bad(at);
-    }
-    let b = text[at];
+    let Some(innermost) = here.brackets.innermost() else {
+        return Err(Fault::Broken(here.at));
+    };
+    let b = text[here.at];
     if b == b',' {
-        return Turn::Go(Walk {
-            at: at + 1,
-            mode: after_comma(kinds),
-            depth: depth,
-            kinds: kinds,
-        });
+        return Ok(Step::Go(Walk {
+            at: here.at + 1,
+            mode: after_comma(innermost),
+            ..here
+        }));
     }
-    if b == closer(kinds) {
-        return shut(text, at, depth, kinds);
+    if b == innermost.closer() {
+        return shut(text, here);
     }
-    Turn::Bad(at)
+    Err(Fault::Broken(here.at))
 }
 
-// No value may stand here: a colon, what stands behind a value, or a byte that is wrong.
-fn between_values(text: &[u8], at: usize, mode: Mode, depth: usize, kinds: u64) -> Turn
-    requires { (at < length text.now) × Byte mode (get_or text.now at 0) × Open depth kinds × (takes_value mode ≡ false) }
-    ensures { Turned text.now at (walk (mode_of mode) (frames depth kinds) (drop at text.now)) result }
+// What stands at a place, which is no blank. Strings go first: they are the most frequent.
+fn turn_at(text: &[u8], here: Walk) -> Result<Step, Fault>
+    requires { (here.at < length text.now) × (is_blank (get_or text.now here.at 0) ≡ false) }
+    ensures { Turned text.now here.at (walk_from text.now here) result }
 {
-    match mode {
-        Mode::Value => Turn::Bad(at),
-        Mode::FirstElement => Turn::Bad(at),
-        Mode::FirstName => Turn::Bad(at),
-        Mode::Name => Turn::Bad(at),
-        Mode::Colon => colon(text, at, depth, kinds),
-        Mode::Behind => behind(text, at, depth, kinds),
-    }
-}
-
-// What stands at `at`, which is no blank, in a mode. Strings go first: they are the most frequent.
-fn turn_at(text: &[u8], at: usize, mode: Mode, depth: usize, kinds: u64) -> Turn
-    requires { (at < length text.now) × (is_blank (get_or text.now at 0) ≡ false) × Open depth kinds }
-    ensures { Turned text.now at (walk (mode_of mode) (frames depth kinds) (drop at text.now)) result }
-{
-    let b = text[at];
+    let b = text[here.at];
     if b == b'"' {
-        return string_at(text, at, mode, depth, kinds);
+        return string_at(text, here);
     }
-    if closes_empty(mode, b) {
-        return shut(text, at, depth, kinds);
+    if closes_empty(here.mode, b) {
+        return shut(text, here);
     }
-    if takes_value(mode) {
-        return begin(text, at, depth, kinds);
+    match here.mode {
+        Mode::Value | Mode::FirstElement => begin(text, here),
+        Mode::Colon => colon(text, here),
+        Mode::Behind => behind(text, here),
+        Mode::FirstName | Mode::Name => Err(Fault::Broken(here.at)),
     }
-    between_values(text, at, mode, depth, kinds)
 }
 
 // The walk from behind the object's own brace on.
-fn inside_end(text: &[u8], start: usize) -> End
+fn inside_end(text: &[u8], start: usize) -> Result<usize, Fault>
     requires { start ≤ length text.now }
     ensures { Tells text.now (walk W.first_name (an_object ∷ []) (drop start text.now)) result }
 {
-    let mut at = start;
-    let mut mode = Mode::FirstName;
-    let mut depth: usize = 1;
-    let mut kinds: u64 = 1;
-    while at < text.len() {
-        let here = byte::blanks_end(text, at);
-        if text.len() <= here {
-            return End::Bad(text.len());
+    let mut here = Walk {
+        at: start,
+        mode: Mode::FirstName,
+        brackets: Brackets::one(),
+    };
+    while here.at < text.len() {
+        here.at = byte::blanks_end(text, here.at);
+        if text.len() <= here.at {
+            break;
         }
-        match turn_at(text, here, mode, depth, kinds) {
-            Turn::Go(next) => {
-                at = next.at;
-                mode = next.mode;
-                depth = next.depth;
-                kinds = next.kinds;
-            }
-            Turn::End(e) => return End::At(e),
-            Turn::Bad(p) => return End::Bad(p),
-            Turn::Deep(p) => return End::Deep(p),
+        match turn_at(text, here)? {
+            Step::Go(next) => here = next,
+            Step::End(e) => return Ok(e),
         }
     }
-    End::Bad(text.len())
+    Err(Fault::Broken(text.len()))
 }
 
 // The first object of some bytes; what follows it is not looked at.
-pub fn first_object(text: &[u8]) -> End
+pub fn first_object(text: &[u8]) -> Result<usize, Fault>
     ensures { Tells text.now (first_object text.now) result }
 {
     let start = byte::blanks_end(text, 0);
-    if text.len() <= start {
-        return End::Bad(text.len());
+    if start < text.len() && text[start] == b'{' {
+        inside_end(text, start + 1)
+    } else {
+        Err(Fault::Broken(start))
     }
-    if text[start] != b'{' {
-        return End::Bad(start);
-    }
-    inside_end(text, start + 1)
 }

@@ -1,18 +1,24 @@
 -- The first byte of a value: an object, a list, or a plain value.
-use Rattle.json_walk.specs.declared.Mode.TheVariants.{Behind}
-use Rattle.json_walk.proofs.Walks.{part_turns, plain_at}
+use lib.ListN.{get_or}
+use native.Mathlib.Omega.{arith}
+use Rattle.std.specs.Prelude.{◌≢◌}
+use Rattle.json_grammar.specs.Walk as W
+use Rattle.json_walk.specs.Turn.{open_in}
+use Rattle.json_walk.proofs.Walks.{part_goes, part_breaks, plain_at}
 use Rattle.json_walk.proofs.begin.Goals as goal
 
-pub returns-then-b-eq123 : goal.returns-then-b-eq123
-returns-then-b-eq123 c =
-    rw c.if-b-eq123.true c.opened.ensures
+pub returns-in_err-at-in_default : goal.returns-in_err-at-in_default
+returns-in_err-at-in_default c =
+    let b = get_or c.args.text.now c.args.here.at 0 in
+    let no_object : b ≢ 123 = grind arith in
+    let no_list : b ≢ 91 = grind arith in
+    rw (plain_at _ _ c.requires.0 (open_in c.args.here.brackets) c.requires.1 no_object no_list)
+    (part_breaks c.args.text.now c.args.here.at _ _ _ c.from_residual.result c.in_err-at-in_default.ensures c.from_residual.ensures.1)
 
-pub returns-then-b-eq91 : goal.returns-then-b-eq91
-returns-then-b-eq91 c =
-    rw c.if-b-eq91.true c.opened-then-b-eq91.ensures
-
-pub returns : goal.returns
-returns c =
-    let s = c in
-    rw (c.past.ensures, plain_at _ _ s.requires.0 _ s.requires.1 c.if-b-eq123.false c.if-b-eq91.false)
-    (part_turns _ _ _ c.plain_end.result Behind s.requires.2 c.plain_end.ensures)
+pub returns-in_ok-at-in_default : goal.returns-in_ok-at-in_default
+returns-in_ok-at-in_default c =
+    let b = get_or c.args.text.now c.args.here.at 0 in
+    let no_object : b ≢ 123 = grind arith in
+    let no_list : b ≢ 91 = grind arith in
+    rw (plain_at _ _ c.requires.0 (open_in c.args.here.brackets) c.requires.1 no_object no_list)
+    (part_goes _ _ _ _ W.behind (open_in c.args.here.brackets) c.in_ok-at-in_default.ensures)

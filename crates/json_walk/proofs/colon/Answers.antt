@@ -7,14 +7,12 @@ use Rattle.json_grammar.specs.Walk.{step}
 use Rattle.json_walk.proofs.Walks.{walk_at}
 use Rattle.json_walk.proofs.colon.Goals as goal
 
-pub returns-then-text-at-eq58 : goal.returns-then-text-at-eq58
+pub returns-then-text-here-ne58 : goal.returns-then-text-here-ne58
 unfolding step
-returns-then-text-at-eq58 c =
-    let s = c in
-    (rw (walk_at _ _ s.requires.0 W.colon _, s.requires.1, c.if-text-at-eq58.true, add-one), omega arith, omega arith, s.requires.2)
+returns-then-text-here-ne58 c =
+    (rw (walk_at _ _ c.requires.0 W.colon _, c.requires.1, ne_eqb _ 58 c.if-text-here-ne58.true), omega arith)
 
 pub returns : goal.returns
 unfolding step
 returns c =
-    let s = c in
-    (rw (walk_at _ _ s.requires.0 W.colon _, s.requires.1, ne_eqb _ 58 c.if-text-at-eq58.false), omega arith)
+    (rw (walk_at _ _ c.requires.0 W.colon _, c.requires.1, c.if-text-here-ne58.false, add-one), omega arith, omega arith)

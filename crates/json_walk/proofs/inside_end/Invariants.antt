@@ -4,8 +4,8 @@ use lib.ListN.{length}
 use Rattle.json_walk.proofs.Walks.{Inside}
 use Rattle.json_walk.proofs.inside_end.Given as goal
 
-abbrev pub invariant-loop-at : goal.invariant-loop-at
-invariant-loop-at l = Inside l.text l.start l.at l.mode l.depth l.kinds
+abbrev pub invariant-loop-here : goal.invariant-loop-here
+invariant-loop-here l = Inside l.text l.start l.here
 
-abbrev pub decreases-loop-at : goal.decreases-loop-at
-decreases-loop-at l = length l.text - l.at
+abbrev pub decreases-loop-here : goal.decreases-loop-here
+decreases-loop-here l = length l.text - l.here.at

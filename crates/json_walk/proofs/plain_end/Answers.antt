@@ -1,29 +1,36 @@
 -- The first byte says which word it is, or that it is a number.
 use Prim.Native.Nat.{ℕ}
 use lib.Seq.{drop-cons}
+use lib.ListN.{get_or}
+use native.Mathlib.Omega.{arith}
+use Rattle.std.specs.Prelude.{◌≢◌}
 use native.Mathlib.Numerals.{add-one}
 use borrow.Author.Tests.{ne_eqb}
 use Rattle.json_walk.specs.Turn.{plain_stop}
 use Rattle.json_walk.proofs.plain_end.Goals as goal
 
-pub returns-then-b-eq116 : goal.returns-then-b-eq116
+pub returns-in-116 : goal.returns-in-116
 unfolding plain_stop
-returns-then-b-eq116 c =
-    rw (drop-cons {A = ℕ} _ _ 0 c.requires, c.if-b-eq116.true) (rw add-one at c.word_end.ensures)
+returns-in-116 c =
+    rw (drop-cons {A = ℕ} _ _ 0 c.requires, c.in-116.is) (rw add-one at c.word_end.ensures)
 
-pub returns-then-b-eq102 : goal.returns-then-b-eq102
+pub returns-in-102 : goal.returns-in-102
 unfolding plain_stop
-returns-then-b-eq102 c =
-    rw (drop-cons {A = ℕ} _ _ 0 c.requires, c.if-b-eq102.true) (rw add-one at c.word_end-then-b-eq102.ensures)
+returns-in-102 c =
+    rw (drop-cons {A = ℕ} _ _ 0 c.requires, c.in-102.is) (rw add-one at c.word_end-in-102.ensures)
 
-pub returns-then-b-eq110 : goal.returns-then-b-eq110
+pub returns-in-110 : goal.returns-in-110
 unfolding plain_stop
-returns-then-b-eq110 c =
-    rw (drop-cons {A = ℕ} _ _ 0 c.requires, c.if-b-eq110.true) (rw add-one at c.word_end-then-b-eq110.ensures)
+returns-in-110 c =
+    rw (drop-cons {A = ℕ} _ _ 0 c.requires, c.in-110.is) (rw add-one at c.word_end-in-110.ensures)
 
-pub returns : goal.returns
+pub returns-in_default : goal.returns-in_default
 unfolding plain_stop
-returns c =
+returns-in_default c =
     let h = c.requires in
-    rw (drop-cons {A = ℕ} _ _ 0 h, ne_eqb _ 116 c.if-b-eq116.false, ne_eqb _ 102 c.if-b-eq102.false, ne_eqb _ 110 c.if-b-eq110.false)
+    let b = get_or c.args.text.now c.args.at 0 in
+    let not_t : b ≢ 116 = grind arith in
+    let not_f : b ≢ 102 = grind arith in
+    let not_n : b ≢ 110 = grind arith in
+    rw (drop-cons {A = ℕ} _ _ 0 h, ne_eqb b 116 not_t, ne_eqb b 102 not_f, ne_eqb b 110 not_n)
     (rw (drop-cons {A = ℕ} _ _ 0 h) at c.number_end.ensures)
