@@ -1,38 +1,30 @@
--- Two strings compared byte by byte: what the loop keeps, and how the bytes r and q that `next` gave at c and d take it on. T is what the loop is to answer.
-use mathlib.Core.Path.{◌≡◌, refl, ap, ◌∙◌}
-use mathlib.Core.List.{List}
-use mathlib.Core.Bool.{Bool, true, false, not}
+-- Two lists of bytes compared as `eq` of two iterators over them compares: in turn, up to the first place where they differ or one ends.
 use Prim.Native.Nat.{ℕ}
-use borrow.Author.Tests.{eq-eqb, ne_eqb}
-use Rattle.json_decode.specs.Characters.{plain_from, ahead, Sound, Gives}
-use Rattle.json_decode.specs.declared.Cursor.{Cursor}
-use Rattle.json_decode.specs.declared.NextByte.{NextByte}
-use Rattle.json_decode.proofs.Ahead.{gives_one, gives_none}
+use mathlib.Core.Path.{◌≡◌}
+use mathlib.Core.List.{List, [], ◌∷◌}
+use mathlib.Core.Bool.{Bool, true, false}
+use lib.Dec.{eqb}
+use Rattle.std.specs.Prelude.{Option, Some, None, MatchOption, IfSome}
+use Rattle.std.specs.List.{AllZip}
+use Rattle.std.specs.Iterator.{YieldsFirst, Yields, ComparesItemsByEq}
 use Rattle.json_move.specs.Read.{same}
 
-pub record Beside (text : List ℕ) (T : Bool) (c d : Cursor) : Type 0 where
-  pub sound : Sound c
-  pub other : Sound d
-  pub answer : same (ahead text c) (ahead text d) ≡ T
+module _ {S : Type 0} (rest : S → List ℕ) (r : Bool) where
+  ends : (o p : Option ℕ) (s s' t t' : S) → YieldsFirst rest s o s' → YieldsFirst rest t p t'
+      → MatchOption o (MatchOption p (r ≡ true) (λ _. r ≡ false)) (λ x. (r ≡ false) × IfSome p (λ y. eqb x y ≡ false))
+      → r ≡ same (rest s) (rest t)
+  ends None None s s' t t' e f l = rw (e.0, f.0) l
+  ends None (Some y) s s' t t' e f l = rw (e.0, f) l
+  ends (Some x) None s s' t t' e f l = rw (e, f.0) l.0
+  ends (Some x) (Some y) s s' t t' e f l = rw (e, f, l.1) l.0
 
-pub beside_both : {text : List ℕ} (p q : ℕ) {c d : Cursor} → ((t : List ℕ) → ahead t c ≡ plain_from t p) × Sound c → ((t : List ℕ) → ahead t d ≡ plain_from t q) × Sound d
-    → Beside text (same (plain_from text p) (plain_from text q)) c d
-beside_both {text} p q e f = record { sound = e.1; other = f.1; answer = rw (e.0 text, f.0 text) }
+  goes : (xs ys : List ℕ) (s t u v : S) → Yields (YieldsFirst rest) s xs u → Yields (YieldsFirst rest) t ys v
+      → AllZip (λ x y. eqb x y ≡ true) xs ys → r ≡ same (rest u) (rest v) → r ≡ same (rest s) (rest t)
+  goes [] [] s t u v e f z h = rw (e, f) h
+  goes [] (y ∷ ys) s t u v e f z h = absurd z
+  goes (x ∷ xs) [] s t u v e f z h = absurd z
+  goes (x ∷ xs) (y ∷ ys) s t u v (j, a, k) (i, b, l) z h = rw (a, b, z.0) (goes xs ys j i u v k l z.1 h)
 
-module _ {text : List ℕ} {T : Bool} {c d : Cursor} {r q : NextByte} (g : Gives text c r) (f : Gives text d q) (i : Beside text T c d) where
-  pub both_end : not r.some ≡ true → not q.some ≡ T
-  both_end e = go q.some refl
-    where
-      go : (t : Bool) → q.some ≡ t → not q.some ≡ T
-      go true u = ap not u ∙ rw (gives_none g e, gives_one f (ap not u)) at i.answer
-      go false u = ap not u ∙ rw (gives_none g e, gives_none f (ap not u)) at i.answer
-
-  module _ (e : not r.some ≡ false) where
-    pub other_ends : not q.some ≡ true → false ≡ T
-    other_ends u = rw (gives_one g e, gives_none f u) at i.answer
-
-    pub both_differ : not q.some ≡ false → (r.byte ≡ q.byte → ⊥) → false ≡ T
-    both_differ u d = rw (gives_one g e, gives_one f u, ne_eqb r.byte q.byte d) at i.answer
-
-    pub both_on : not q.some ≡ false → r.byte ≡ q.byte → Beside text T r.cursor q.cursor
-    both_on u d = record { sound = g.sound; other = f.sound; answer = rw (gives_one g e, gives_one f u, eq-eqb r.byte q.byte d) at i.answer }
+  pub compared : (s t : S) → ComparesItemsByEq (YieldsFirst rest) (λ a b. b ≡ a) (YieldsFirst rest) s t eqb r → r ≡ same (rest s) (rest t)
+  compared s t (i, xs, ys, o, p, u, v, e, (s', a, b), (t', c, d), z, l) =
+      let k : r ≡ same (rest s) (rest i) = goes xs ys s i s' t' a c z (ends o p s' u t' v b d l) in rw (← e) k

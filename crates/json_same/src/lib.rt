@@ -4,73 +4,51 @@
 ghost use Rattle.std.specs.Prelude.{◌≡◌, drop};
 ghost use Rattle.json_move.specs.Read.{decoded, same};
 ghost use Rattle.json_decode.specs.Characters.{plain_from};
-ghost use Rattle.json_same.specs.Naming.{Paired, First};
+ghost use Rattle.json_same.specs.Naming.{Paired, Begins};
 
 use json_grammar::string::Lead;
 use json_scan::string;
 
-// The plain ASCII character at a place where a character or the closing quote may stand, 256 where the string ends there, and 257 where it is to
-// be decoded: two strings mostly differ in plain characters.
-fn first(text: &[u8], at: usize) -> usize
-    ensures { First text.now at result }
+// What stands at a place where a character or the closing quote may stand: two strings mostly differ in plain characters.
+#[derive(Clone, Copy)]
+enum First {
+    Ascii(u8), // a plain ASCII character
+    End,
+    Coded, // what is to be decoded
+}
+
+fn first_at(text: &[u8], at: usize) -> First
+    ensures { Begins text.now at result }
 {
-    if text.len() <= at {
-        return 256;
-    }
-    let b = text[at];
+    let Some(&b) = text.get(at) else {
+        return First::End;
+    };
     match string::lead_of(b) {
-        Lead::Ascii => b as usize,
-        Lead::Quote => 256,
-        _ => 257,
+        Lead::Ascii => First::Ascii(b),
+        Lead::Quote => First::End,
+        _ => First::Coded,
     }
 }
 
-// The first place from `p` on where no plain ASCII character stands that stands as far behind `q` too.
+// So many plain ASCII characters stand at `p` and at `q` alike.
 fn ascii_both(text: &[u8], p: usize, q: usize) -> usize
     ensures { Paired text.now p q result }
 {
-    let mut i = p;
-    let mut j = q;
-    while i < text.len() {
-        if text.len() <= j {
-            return i;
-        }
-        let b = text[i];
-        if b != text[j] {
-            return i;
-        }
-        match string::lead_of(b) {
-            Lead::Ascii => {
-                i += 1;
-                j += 1;
-            }
-            _ => return i,
+    let most = text.len().saturating_sub(p.max(q));
+    for n in 0..most {
+        let b = text[p + n];
+        if b != text[q + n] || !string::is_ascii(b) {
+            return n;
         }
     }
-    i
+    most
 }
 
 // Whether the strings go on alike from `p` and from `q` on, where a character or the closing quote may stand.
 fn rest_same(text: &[u8], p: usize, q: usize) -> bool
     ensures { result ≡ same (plain_from text.now p) (plain_from text.now q) }
 {
-    let mut c = json_decode::plain_at(p);
-    let mut d = json_decode::plain_at(q);
-    loop {
-        let next = json_decode::next(text, c);
-        let other = json_decode::next(text, d);
-        if !next.some {
-            return !other.some;
-        }
-        if !other.some {
-            return false;
-        }
-        if next.byte != other.byte {
-            return false;
-        }
-        c = next.cursor;
-        d = other.cursor;
-    }
+    json_decode::plain_at(text, p).eq(json_decode::plain_at(text, q))
 }
 
 // Whether the strings whose quotes stand at `p` and at `q` are the same.
@@ -79,21 +57,13 @@ pub fn names_same(text: &[u8], p: usize, q: usize) -> bool
 {
     let at = json_decode::behind(text, p);
     let from = json_decode::behind(text, q);
-    let i = ascii_both(text, at, from);
-    let j = from + (i - at);
-    let b = first(text, i);
-    let d = first(text, j);
-    if b == 257 {
-        return rest_same(text, i, j);
+    let n = ascii_both(text, at, from);
+    let i = at + n;
+    let j = from + n;
+    match (first_at(text, i), first_at(text, j)) {
+        (First::End, First::End) => true,
+        (First::End, First::Ascii(_)) | (First::Ascii(_), First::End) => false,
+        (First::Ascii(a), First::Ascii(b)) if a != b => false,
+        _ => rest_same(text, i, j),
     }
-    if d == 257 {
-        return rest_same(text, i, j);
-    }
-    if b != d {
-        return false;
-    }
-    if b == 256 {
-        return true;
-    }
-    rest_same(text, i, j)
 }
