@@ -2,7 +2,7 @@
 use mathlib.Core.Path.{◌≡◌, refl, subst}
 use mathlib.Core.List.{List}
 use Rattle.std.specs.Prelude.{Some}
-use mathlib.Core.Bool.{Bool, true, false, true≢false, false≢true}
+use mathlib.Core.Bool.{Bool, true, false}
 use Prim.Native.Nat.{ℕ, ◌+◌, ◌≤◌, ◌<◌}
 use native.Mathlib.Omega.{arith}
 use Rattle.check_doses.specs.Shapes.{Decides}
@@ -15,12 +15,6 @@ decides_one true true d e = refl
 decides_one true false d e = absurd (e.no refl (d.yes refl))
 decides_one false true d e = absurd (d.no refl (e.yes refl))
 decides_one false false d e = refl
-
-pub yes_of : {P : Type 0} → P → Decides P true
-yes_of p = record { yes = λ e. p; no = λ e. absurd (true≢false e) }
-
-pub no_of : {P : Type 0} → (P → ⊥) → Decides P false
-no_of f = record { yes = λ e. absurd (false≢true e); no = λ e. f }
 
 pub as_last : {P Q : Type 0} {r : Bool} → (Q → P) → (P → Q) → Decides Q r → Decides P r
 as_last f g d = record { yes = λ e. f (d.yes e); no = λ e p. d.no e (g p) }

@@ -33,16 +33,16 @@ pub record Lets (ts : List ℕ) (unit : Option ℕ) : Type 0 where
   pub interval : among 6 ts ≡ true → IsSome unit
 
 -- Words within bounds.
-exact : (n : ℕ) → Holds (between n n) n
+pub exact : (n : ℕ) → Holds (between n n) n
 exact n = record { least = omega arith; most = omega arith }
 
-up_to : (n most : ℕ) → leb n most ≡ true → Holds (between 0 most) n
+pub up_to : (n most : ℕ) → leb n most ≡ true → Holds (between 0 most) n
 up_to n most h = record { least = omega arith; most = leb-true n most h }
 
 positive : (n most : ℕ) → ltb 0 n ≡ true → leb n most ≡ true → Holds (between 1 most) n
 positive n most g h = record { least = ltb-true 0 n g; most = leb-true n most h }
 
-among_bounds : (least n most : ℕ) → leb least n && leb n most ≡ true → Holds (between least most) n
+pub among_bounds : (least n most : ℕ) → leb least n && leb n most ≡ true → Holds (between least most) n
 among_bounds least n most h = let r = in_range least n most h in record { least = r.0; most = r.1 }
 
 -- Words that stand at a record, within a shape's bounds.

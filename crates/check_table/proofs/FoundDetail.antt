@@ -6,7 +6,6 @@ use Prim.Native.Nat.{ℕ, zero, suc, ◌+◌, ◌-◌, ◌≤◌}
 use native.Mathlib.Omega.{arith}
 use lib.ListN.{length, take, drop, length-append, length-drop}
 use lib.Seq.{drop-drop, take_at, drop_at}
-use borrow.Author.Tests.{leb-true}
 use Rattle.document.specs.Posology as P
 use Rattle.document.specs.Posology.{Detail, SequenceObject, SequenceObjects}
 use Rattle.document.specs.Schema.{under_single, under_cyclic}
@@ -19,11 +18,11 @@ use Rattle.document.specs.declared.table.Record.{Record}
 use Rattle.document.specs.declared.table.Kind.TheVariants as K
 use Rattle.table_rows.specs.Standing.{below_at, b_at, At, Lies}
 use Rattle.table_rows.proofs.Standing.{moved}
-use Rattle.document.proofs.Ranges.{in_range}
 use Rattle.document.proofs.DetailParts.{daily_parts, text_parts, cyclic_parts, sequence_parts, posology_sequence_parts, pause_parts, objects_parts}
 use Rattle.document.proofs.Untables.{joined_append}
-use Rattle.check_doses.proofs.Decided.{same_parent}
-use Rattle.check_doses.proofs.Found.{timed_found, lets_single, lets_cyclic}
+use Rattle.check_doses.proofs.Decided.{same_unit}
+use Rattle.std.specs.Prelude.{Some, None}
+use Rattle.check_doses.proofs.Found.{exact, up_to, among_bounds, row_of, timed_found, lets_single, lets_cyclic}
 use Rattle.check_doses.specs.Doses.{daily, single, cyclic}
 use Rattle.check_table.specs.Checks.{DetailAt, still, free_text, sequence, ObjectAt, pause, posology, ObjectsAt, last, more}
 
@@ -72,12 +71,8 @@ module _ {ws buffer : List ℕ} where
   unfolding valid_detail detail_rows detail_records detail_strings
   daily_found a b c d left i text k rest v l e m =
       let w = daily_parts a b c d left v in
-      let ha : a ≤ 999999999999 = leb-true a 999999999999 w.morning in
-      let hb : b ≤ 999999999999 = leb-true b 999999999999 w.noon in
-      let hc : c ≤ 999999999999 = leb-true c 999999999999 w.evening in
-      let hd : d ≤ 999999999999 = leb-true d 999999999999 w.night in
       let p = l.0 in
-      record { taken = text; at = still (daily (record { inside = p.inside; tag = p.tag; below_least = omega arith; below_most = omega arith; a_least = omega arith; a_most = omega arith; b_least = omega arith; b_most = omega arith; c_least = omega arith; c_most = omega arith; d_least = omega arith; d_most = omega arith })) refl; count = omega arith; lies = l.1; behind = e; most = m; sum = λ s. refl }
+      record { taken = text; at = still (daily (row_of p refl (exact 0) (up_to a _ w.morning) (up_to b _ w.noon) (up_to c _ w.evening) (up_to d _ w.night))) refl; count = omega arith; lies = l.1; behind = e; most = m; sum = λ s. refl }
 
   free_found : (cs : List ℕ) (left i text : ℕ) (k : List Record) (rest : List ℕ) → valid_detail (P.free_text cs) left ≡ true → Lies ws i (all_words (detail_rows (P.free_text cs) text k)) → drop text buffer ≡ detail_strings (P.free_text cs) rest → text ≤ length buffer → FoundDetail ws buffer (P.free_text cs) left i text k rest
   unfolding valid_detail detail_rows detail_records detail_strings
@@ -91,7 +86,7 @@ module _ {ws buffer : List ℕ} where
       let z : text + length cs ≡ text + b_at ws i = omega arith in
       record {
         taken = text + length cs;
-        at = free_text (record { room = m; row = record { inside = p.inside; tag = p.tag; below_least = omega arith; below_most = omega arith; a_least = omega arith; a_most = omega arith; b_least = omega arith; b_most = omega arith; c_least = omega arith; c_most = omega arith; d_least = omega arith; d_most = omega arith }; utf8 = ap is_utf8 t ∙ w.utf8 }) z;
+        at = free_text (record { room = m; row = row_of p refl (exact 0) (exact text) (record { least = omega arith; most = omega arith }) (exact 0) (exact 0); utf8 = ap is_utf8 t ∙ w.utf8 }) z;
         count = omega arith;
         lies = l.1;
         behind = sym (drop-drop (length cs) text buffer) ∙ ap (drop (length cs)) e' ∙ drop_at cs rest (length cs) refl;
@@ -103,42 +98,35 @@ module _ {ws buffer : List ℕ} where
   unfolding valid_detail detail_rows detail_records detail_strings
   single_found td left i text k rest v f l e m =
       let p = l.0 in
-      let r = timed_found td under_single 0 k lets_single v (omega arith) l.1 in
+      let r = timed_found td under_single None k lets_single v (omega arith) l.1 in
       let c = r.1.0 in
       let n : i + 1 + timed_records td ≡ i + (1 + timed_records td) = omega arith in
-      record { taken = text; at = still (single (record { row = record { inside = p.inside; tag = p.tag; below_least = omega arith; below_most = omega arith; a_least = omega arith; a_most = omega arith; b_least = omega arith; b_most = omega arith; c_least = omega arith; c_most = omega arith; d_least = omega arith; d_most = omega arith }; inner = r.0; nested = omega arith })) refl; count = omega arith; lies = moved ws (all_words k) n r.1.1; behind = e; most = m; sum = λ s. refl }
+      record { taken = text; at = still (single (record { row = row_of p refl (record { least = omega arith; most = omega arith }) (exact 0) (exact 0) (exact 0) (exact 0); inner = r.0; nested = omega arith })) refl; count = omega arith; lies = moved ws (all_words k) n r.1.1; behind = e; most = m; sum = λ s. refl }
 
   cyclic_found : (u du per : ℕ) (td : P.Timed) (left i text : ℕ) (k : List Record) (rest : List ℕ) → valid_detail (P.cyclic u du td per) left ≡ true → i + detail_records (P.cyclic u du td per) ≤ 64 → Lies ws i (all_words (detail_rows (P.cyclic u du td per) text k)) → drop text buffer ≡ rest → text ≤ length buffer → FoundDetail ws buffer (P.cyclic u du td per) left i text k rest
   unfolding valid_detail detail_rows detail_records detail_strings
   cyclic_found u du per td left i text k rest v f l e m =
       let p = l.0 in
       let w = cyclic_parts u du td per left v in
-      let u-in = in_range 1 u 7 w.unit in
-      let du-in = in_range 1 du 99999 w.duration in
-      let per-in = in_range 1 per 99999 w.per in
-      let r = timed_found td (under_cyclic u) u k (lets_cyclic u u-in.0) w.timed (omega arith) l.1 in
+      let r = timed_found td (under_cyclic u) (Some u) k (lets_cyclic u) w.timed (omega arith) l.1 in
       let c = r.1.0 in
       let n : i + 1 + timed_records td ≡ i + (1 + timed_records td) = omega arith in
-      record { taken = text; at = still (cyclic (record { row = record { inside = p.inside; tag = p.tag; below_least = omega arith; below_most = omega arith; a_least = omega arith; a_most = omega arith; b_least = omega arith; b_most = omega arith; c_least = omega arith; c_most = omega arith; d_least = omega arith; d_most = omega arith }; inner = same_parent (sym p.a) r.0; nested = omega arith })) refl; count = omega arith; lies = moved ws (all_words k) n r.1.1; behind = e; most = m; sum = λ s. refl }
+      record { taken = text; at = still (cyclic (record { row = row_of p refl (record { least = omega arith; most = omega arith }) (among_bounds 1 u 7 w.unit) (among_bounds 1 du 99999 w.duration) (among_bounds 1 per 99999 w.per) (exact 0); inner = same_unit (sym p.a) r.0; nested = omega arith })) refl; count = omega arith; lies = moved ws (all_words k) n r.1.1; behind = e; most = m; sum = λ s. refl }
 
   pause_found : (du u left i text : ℕ) (k : List Record) (rest : List ℕ) → valid_object (P.pause du u) left ≡ true → Lies ws i (all_words (object_rows (P.pause du u) text k)) → drop text buffer ≡ rest → text ≤ length buffer → FoundObject ws buffer (P.pause du u) left i text k rest
   unfolding valid_detail detail_rows detail_records detail_strings
   pause_found du u left i text k rest v l e m =
       let p = l.0 in
       let w = pause_parts du u left v in
-      let du-in = in_range 1 du 99999 w.duration in
-      let u-in = in_range 1 u 7 w.unit in
-      record { taken = text; at = pause (record { inside = p.inside; tag = p.tag; below_least = omega arith; below_most = omega arith; a_least = omega arith; a_most = omega arith; b_least = omega arith; b_most = omega arith; c_least = omega arith; c_most = omega arith; d_least = omega arith; d_most = omega arith }) refl; count = omega arith; lies = l.1; behind = e; most = m; sum = λ s. refl }
+      record { taken = text; at = pause (row_of p refl (exact 0) (among_bounds 1 du 99999 w.duration) (among_bounds 1 u 7 w.unit) (exact 0) (exact 0)) refl; count = omega arith; lies = l.1; behind = e; most = m; sum = λ s. refl }
 
   posology_found : (du u : ℕ) (po : Detail) (left i text : ℕ) (k : List Record) (rest : List ℕ) → valid_object (P.posology_sequence du u po) left ≡ true → i + object_records (P.posology_sequence du u po) ≤ 64 → At ws i (record_words (row (K.PosologySequence du u) (detail_records po))) → FoundDetail ws buffer po left (i + 1) text k rest → FoundObject ws buffer (P.posology_sequence du u po) left i text k rest
   unfolding valid_detail detail_rows detail_records detail_strings
   posology_found du u po left i text k rest v f p r =
       let w = posology_sequence_parts du u po left v in
-      let du-in = in_range 1 du 99999 w.duration in
-      let u-in = in_range 1 u 7 w.unit in
       let c = r.count in
       let n : i + 1 + detail_records po ≡ i + (1 + detail_records po) = omega arith in
-      record { taken = r.taken; at = posology (record { inside = p.inside; tag = p.tag; below_least = omega arith; below_most = omega arith; a_least = omega arith; a_most = omega arith; b_least = omega arith; b_most = omega arith; c_least = omega arith; c_most = omega arith; d_least = omega arith; d_most = omega arith }) r.at (omega arith); count = omega arith; lies = moved ws (all_words k) n r.lies; behind = r.behind; most = r.most; sum = r.sum }
+      record { taken = r.taken; at = posology (row_of p refl (record { least = omega arith; most = omega arith }) (among_bounds 1 du 99999 w.duration) (among_bounds 1 u 7 w.unit) (exact 0) (exact 0)) r.at (omega arith); count = omega arith; lies = moved ws (all_words k) n r.lies; behind = r.behind; most = r.most; sum = r.sum }
 
   sequence_found : (os : SequenceObjects) (left i text : ℕ) (k : List Record) (rest : List ℕ) → i + detail_records (P.sequence os) ≤ 64 → 1 ≤ objects_records os → At ws i (record_words (row K.Sequence (objects_records os))) → FoundObjects ws buffer os left (i + 1 + below_at ws i) (i + 1) text k rest → FoundDetail ws buffer (P.sequence os) (suc left) i text k rest
   unfolding valid_detail detail_rows detail_records detail_strings
@@ -146,7 +134,7 @@ module _ {ws buffer : List ℕ} where
       let n : i + 1 + below_at ws i ≡ i + (1 + objects_records os) = omega arith in
       let m : left ≡ suc left - 1 = omega arith in
       let y : 1 ≤ suc left = omega arith in
-      record { taken = r.taken; at = sequence y (record { inside = p.inside; tag = p.tag; below_least = omega arith; below_most = omega arith; a_least = omega arith; a_most = omega arith; b_least = omega arith; b_most = omega arith; c_least = omega arith; c_most = omega arith; d_least = omega arith; d_most = omega arith }) (subst (λ x. ObjectsAt ws buffer x (i + 1 + below_at ws i) (i + 1) text r.taken) m r.at); count = omega arith; lies = moved ws (all_words k) n r.lies; behind = r.behind; most = r.most; sum = r.sum }
+      record { taken = r.taken; at = sequence y (row_of p refl (record { least = omega arith; most = omega arith }) (exact 0) (exact 0) (exact 0) (exact 0)) (subst (λ x. ObjectsAt ws buffer x (i + 1 + below_at ws i) (i + 1) text r.taken) m r.at); count = omega arith; lies = moved ws (all_words k) n r.lies; behind = r.behind; most = r.most; sum = r.sum }
 
   join : (o : SequenceObject) (os : SequenceObjects) (left end i text : ℕ) (k : List Record) (rest : List ℕ) → i + (object_records o + objects_records os) ≡ end → (r : FoundObject ws buffer o left i text (objects_rows os (text + length (object_strings o [])) k) (objects_strings os rest)) → (some_object os ≡ true → FoundObjects ws buffer os left end (i + object_records o) r.taken k rest) → FoundObjects ws buffer (P.object_then o os) left end i text k rest
   unfolding valid_detail detail_rows detail_records detail_strings

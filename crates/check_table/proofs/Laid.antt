@@ -1,19 +1,17 @@
 -- The words of records, used and unused, as one list.
-use mathlib.Core.Path.{◌≡◌, refl, ap, ◌∙◌}
+use mathlib.Core.Path.{◌≡◌, refl, ap, sym, ◌∙◌}
 use mathlib.Core.List.{List, ◌++◌}
-use mathlib.Core.Bool.{Bool, true, false, ◌&&◌}
+use mathlib.Core.Bool.{Bool}
 use Prim.Native.Nat.{ℕ, zero, suc, ◌+◌, ◌*◌, ◌-◌, ◌≤◌, ◌<◌}
 use native.Mathlib.Omega.{arith}
-use lib.ListN.{length, get_or, replicate}
-use lib.Seq.{get_or-append-add}
+use lib.ListN.{length, take, drop, get_or, replicate, length-drop}
+use lib.Seq.{get_or-append-add, take_all}
+use Rattle.std.proofs.lemmas.List.{get_or-drop}
 use Rattle.document.specs.Table.{no_record}
 use Rattle.document.specs.Words.{width, words_at_most, all_words, rows}
 use Rattle.document.specs.declared.table.Record.{Record}
-use lib.Dec.{eqb}
-use borrow.Author.Count.{below_more}
-use borrow.Author.Tests.{eqb-true, eqb-false}
-use Rattle.check_doses.specs.Doses.{Decides}
-use Rattle.check_doses.proofs.Decided.{yes_of, no_of}
+use Rattle.check_doses.specs.Shapes.{Decides}
+use Rattle.check_doses.proofs.Decided.{as_last}
 use Rattle.table_rows.specs.Standing.{Lies}
 use Rattle.document.proofs.WordRows.{records_append, records_length}
 use Rattle.check_table.specs.Checks.{Zeros}
@@ -47,18 +45,17 @@ zeros_lie ws k (suc m) i n z h f =
       zeros_lie ws k m (i + 1) n z (omega arith) (omega arith),
     )
 
--- The words from k on, up to a place, are zero.
-abbrev pub ZerosTo : List ℕ → ℕ → ℕ → Type 0
-ZerosTo ws k at = (j : ℕ) → k ≤ j → j < at → get_or ws j 0 ≡ 0
+-- The words up to a place are zero.
+abbrev pub ZerosTo : List ℕ → ℕ → Type 0
+ZerosTo ws at = (j : ℕ) → j < at → get_or ws j 0 ≡ 0
 
--- Both ways, for the answer so far is not left where a word is not zero.
-pub one_more : (ws : List ℕ) (k at : ℕ) (b : Bool) → k ≤ at → Decides (ZerosTo ws k at) b
-    → Decides (ZerosTo ws k (at + 1)) (b && eqb (get_or ws at 0) 0)
-one_more ws k at false h d = no_of (λ z. d.no refl (λ j g l. z j g (omega arith)))
-one_more ws k at true h d = go (eqb (get_or ws at 0) 0) refl
-  where
-    go : (b : Bool) → eqb (get_or ws at 0) 0 ≡ b → Decides (ZerosTo ws k (at + 1)) b
-    go true e =
-        let here = eqb-true (get_or ws at 0) 0 e in
-        yes_of (λ j g l. below_more (λ n. k ≤ n → get_or ws n 0 ≡ 0) at (λ n m f. d.yes refl n f m) (λ f. here) j l g)
-    go false e = no_of (λ z. eqb-false (get_or ws at 0) 0 e (z at h (omega arith)))
+pub behind_zeros : (ws : List ℕ) (k at : ℕ) (b : Bool) → at ≤ length (take (length ws - k) (drop k ws)) → length (take (length ws - k) (drop k ws)) ≤ at
+    → Decides (ZerosTo (take (length ws - k) (drop k ws)) at) b → Decides (Zeros ws k) b
+behind_zeros ws k at b g h d =
+    let e : take (length ws - k) (drop k ws) ≡ drop k ws = take_all (length ws - k) (drop k ws) (omega (arith, length-drop k ws)) in
+    let n : length ws - k ≡ at = omega (arith, ap length e, length-drop k ws) in
+    let word : (j : ℕ) → get_or (take (length ws - k) (drop k ws)) j 0 ≡ get_or ws (k + j) 0 = λ j. ap (λ l. get_or l j 0) e ∙ get_or-drop k ws j 0 in
+    as_last
+    (λ z j f l. let m : k + (j - k) ≡ j = omega arith in ap (λ i. get_or ws i 0) (sym m) ∙ sym (word (j - k)) ∙ z (j - k) (omega arith))
+    (λ z j f. word j ∙ z (k + j) (omega arith) (omega arith))
+    d

@@ -1,11 +1,11 @@
--- What the proofs of several functions use.
-mod Tailed
+mod Utf8Chars
+mod Checked
 mod Details
-mod Heads
-mod LiesDetail
-pub mod FoundDetail
 mod Laid
-pub mod Stands
+mod LiesDetail
+mod FoundDetail
+mod Stands
 mod Pieces
-pub mod HeadValues
-pub mod Read
+mod HeadValues
+mod Heads
+mod Read

@@ -19,8 +19,9 @@ use Rattle.table_rows.specs.Standing.{below_at, a_at, b_at, c_at, d_at, Lies}
 use Rattle.json_grammar.proofs.Truth.{and_both}
 use Rattle.table_rows.proofs.Standing.{moved}
 use Rattle.check_doses.proofs.Lies.{single_is, cyclic_is}
-use Rattle.check_doses.specs.Doses.{Row, Nested, StillAt, daily, single, cyclic}
-use Rattle.check_table.specs.Checks.{FreeTextAt, DetailAt, still, free_text, sequence, ObjectAt, pause, posology, ObjectsAt, last, more}
+use Rattle.check_doses.specs.Shapes.{Row}
+use Rattle.check_doses.specs.Doses.{Nested, StillAt, daily, single, cyclic}
+use Rattle.check_table.specs.Checks.{sequence_shape, pause_shape, posology_shape, FreeTextAt, DetailAt, still, free_text, sequence, ObjectAt, pause, posology, ObjectsAt, last, more}
 
 pub record DetailIs (ws buffer : List ℕ) (left i text u : ℕ) : Type 0 where
   pub value : Detail
@@ -52,7 +53,7 @@ module _ {ws buffer : List ℕ} where
   unfolding valid_detail detail_rows detail_records detail_strings
   still_is {left} {i} {text} {u} (daily o) e = record {
     value = P.daily (a_at ws i) (b_at ws i) (c_at ws i) (d_at ws i);
-    valid = and_both (and_both (and_both (le-leb (a_at ws i) 999999999999 o.a_most) (le-leb (b_at ws i) 999999999999 o.b_most)) (le-leb (c_at ws i) 999999999999 o.c_most)) (le-leb (d_at ws i) 999999999999 o.d_most);
+    valid = and_both (and_both (and_both (le-leb (a_at ws i) 999999999999 o.a.most) (le-leb (b_at ws i) 999999999999 o.b.most)) (le-leb (c_at ws i) 999999999999 o.c.most)) (le-leb (d_at ws i) 999999999999 o.d.most);
     lies = λ k l. (record { inside = o.inside; tag = o.tag; below = omega arith; a = refl; b = refl; c = refl; d = refl }, l);
     count = omega arith;
     taken = λ k. omega arith;
@@ -76,7 +77,7 @@ module _ {ws buffer : List ℕ} where
       let n : i + (1 + timed_records t.value) ≡ i + 1 + timed_records t.value = omega arith in
       record {
         value = P.cyclic (a_at ws i) (b_at ws i) t.value (c_at ws i);
-        valid = and_both (and_both (and_both (and_both (le-leb 1 (a_at ws i) o.a_least) (le-leb (a_at ws i) 7 o.a_most)) (and_both (le-leb 1 (b_at ws i) o.b_least) (le-leb (b_at ws i) 99999 o.b_most))) t.valid) (and_both (le-leb 1 (c_at ws i) o.c_least) (le-leb (c_at ws i) 99999 o.c_most));
+        valid = and_both (and_both (and_both (and_both (le-leb 1 (a_at ws i) o.a.least) (le-leb (a_at ws i) 7 o.a.most)) (and_both (le-leb 1 (b_at ws i) o.b.least) (le-leb (b_at ws i) 99999 o.b.most))) t.valid) (and_both (le-leb 1 (c_at ws i) o.c.least) (le-leb (c_at ws i) 99999 o.c.most));
         lies = λ k l. (record { inside = o.inside; tag = o.tag; below = omega (arith, p.nested, t.count); a = refl; b = refl; c = refl; d = omega arith }, t.lies k (moved ws (all_words k) n l));
         count = omega (arith, p.nested, t.count);
         taken = λ k. omega arith;
@@ -88,30 +89,30 @@ module _ {ws buffer : List ℕ} where
   free_is {left} {i} {text} {u} p e =
       let o = p.row in
       let cs = take (b_at ws i) (drop text buffer) in
-      let n : length cs ≡ b_at ws i = length-take-le (b_at ws i) (drop text buffer) (omega (arith, length-drop text buffer, o.b_most)) in
+      let n : length cs ≡ b_at ws i = length-take-le (b_at ws i) (drop text buffer) (omega (arith, length-drop text buffer, o.b.most)) in
       record {
         value = P.free_text cs;
-        valid = and_both (ap not (some_of_length cs (λ z. omega (arith, o.b_least)))) p.utf8;
+        valid = and_both (ap not (some_of_length cs (λ z. omega (arith, o.b.least)))) p.utf8;
         lies = λ k l. (record { inside = o.inside; tag = o.tag; below = omega arith; a = omega arith; b = sym n; c = omega arith; d = omega arith }, l);
         count = omega arith;
         taken = λ k. let j = ap length (joined_append cs k) ∙ length-append cs k in omega arith;
         strings = sym (joined_append cs (drop u buffer) ∙ ap (λ m. cs ++ drop m buffer) e ∙ ap (λ s. cs ++ s) (sym (drop-drop (b_at ws i) text buffer)) ∙ take-append-drop (b_at ws i) (drop text buffer));
       }
 
-  pause_is : {left i text u : ℕ} → Row ws i 16 0 0 1 99999 1 7 0 0 0 0 → u ≡ text → ObjectIs ws buffer left i text u
+  pause_is : {left i text u : ℕ} → Row ws i pause_shape → u ≡ text → ObjectIs ws buffer left i text u
   unfolding valid_detail detail_rows detail_records detail_strings
   pause_is {left} {i} {text} {u} o e =
-      let n : i + 1 + below_at ws i ≡ i + 1 = omega (arith, o.below_most) in
+      let n : i + 1 + below_at ws i ≡ i + 1 = omega (arith, o.below.most) in
       record {
         value = P.pause (a_at ws i) (b_at ws i);
-        valid = and_both (and_both (le-leb 1 (a_at ws i) o.a_least) (le-leb (a_at ws i) 99999 o.a_most)) (and_both (le-leb 1 (b_at ws i) o.b_least) (le-leb (b_at ws i) 7 o.b_most));
-        lies = λ k l. (record { inside = o.inside; tag = o.tag; below = omega (arith, o.below_most); a = refl; b = refl; c = omega (arith, o.c_most); d = omega (arith, o.d_most) }, moved ws (all_words k) n l);
-        count = omega (arith, o.below_most);
+        valid = and_both (and_both (le-leb 1 (a_at ws i) o.a.least) (le-leb (a_at ws i) 99999 o.a.most)) (and_both (le-leb 1 (b_at ws i) o.b.least) (le-leb (b_at ws i) 7 o.b.most));
+        lies = λ k l. (record { inside = o.inside; tag = o.tag; below = omega (arith, o.below.most); a = refl; b = refl; c = omega (arith, o.c.most); d = omega (arith, o.d.most) }, moved ws (all_words k) n l);
+        count = omega (arith, o.below.most);
         taken = λ k. omega arith;
         strings = ap (λ n. drop n buffer) (sym e);
       }
 
-  in_sequence : (left i text u : ℕ) → 1 ≤ left → Row ws i 5 1 63 0 0 0 0 0 0 0 0 → ObjectsAre ws buffer (left - 1) (i + 1 + below_at ws i) (i + 1) text u → DetailIs ws buffer left i text u
+  in_sequence : (left i text u : ℕ) → 1 ≤ left → Row ws i sequence_shape → ObjectsAre ws buffer (left - 1) (i + 1 + below_at ws i) (i + 1) text u → DetailIs ws buffer left i text u
   unfolding valid_detail detail_rows detail_records detail_strings
   in_sequence zero i text u l o r = absurd (omega arith)
   in_sequence (suc left) i text u l o r =
@@ -120,20 +121,20 @@ module _ {ws buffer : List ℕ} where
       record {
         value = P.sequence r.value;
         valid = and_both r.some (subst (λ x. valid_objects r.value x ≡ true) m r.valid);
-        lies = λ k l. (record { inside = o.inside; tag = o.tag; below = omega (arith, r.count); a = omega (arith, o.a_most); b = omega (arith, o.b_most); c = omega (arith, o.c_most); d = omega (arith, o.d_most) }, r.lies k (moved ws (all_words k) n l));
+        lies = λ k l. (record { inside = o.inside; tag = o.tag; below = omega (arith, r.count); a = omega (arith, o.a.most); b = omega (arith, o.b.most); c = omega (arith, o.c.most); d = omega (arith, o.d.most) }, r.lies k (moved ws (all_words k) n l));
         count = omega (arith, r.count);
         taken = r.taken;
         strings = r.strings;
       }
 
-  in_object : (left i text u : ℕ) → Row ws i 15 1 63 1 99999 1 7 0 0 0 0 → Nested ws i → DetailIs ws buffer left (i + 1) text u → ObjectIs ws buffer left i text u
+  in_object : (left i text u : ℕ) → Row ws i posology_shape → Nested ws i → DetailIs ws buffer left (i + 1) text u → ObjectIs ws buffer left i text u
   unfolding valid_detail detail_rows detail_records detail_strings
   in_object left i text u o h r =
       let n : i + 1 + below_at ws i ≡ i + 1 + detail_records r.value = omega (arith, r.count) in
       record {
         value = P.posology_sequence (a_at ws i) (b_at ws i) r.value;
-        valid = and_both (and_both (and_both (le-leb 1 (a_at ws i) o.a_least) (le-leb (a_at ws i) 99999 o.a_most)) (and_both (le-leb 1 (b_at ws i) o.b_least) (le-leb (b_at ws i) 7 o.b_most))) r.valid;
-        lies = λ k l. (record { inside = o.inside; tag = o.tag; below = omega (arith, r.count); a = refl; b = refl; c = omega (arith, o.c_most); d = omega (arith, o.d_most) }, r.lies k (moved ws (all_words k) n l));
+        valid = and_both (and_both (and_both (le-leb 1 (a_at ws i) o.a.least) (le-leb (a_at ws i) 99999 o.a.most)) (and_both (le-leb 1 (b_at ws i) o.b.least) (le-leb (b_at ws i) 7 o.b.most))) r.valid;
+        lies = λ k l. (record { inside = o.inside; tag = o.tag; below = omega (arith, r.count); a = refl; b = refl; c = omega (arith, o.c.most); d = omega (arith, o.d.most) }, r.lies k (moved ws (all_words k) n l));
         count = omega (arith, r.count);
         taken = r.taken;
         strings = r.strings;

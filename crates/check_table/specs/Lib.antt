@@ -1,3 +1,2 @@
-pub mod Tails
 pub mod Checks
 pub mod Readable

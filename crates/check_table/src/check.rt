@@ -2,53 +2,52 @@
 ghost use Rattle.std.specs.Prelude.{◌≡◌, ◌+◌, ◌*◌, ◌<◌, ◌≤◌, length, take, drop};
 ghost use Rattle.document.specs.Utf8.{is_utf8};
 ghost use Rattle.document.specs.Words.{width, words_at_most};
-ghost use Rattle.check_doses.specs.Doses.{Decides};
+ghost use Rattle.check_doses.specs.Shapes.{Decides};
 ghost use Rattle.check_table.specs.Checks.{Checks, StringAt, FreeTextAt, DetailAt, ObjectAt, ObjectsAt, SequenceAt, Zeros};
 
-use crate::utf8;
-use check_doses::{MOST_BELOW, MOST_INTEGER, nested, row, still};
+use check_doses::{BLANK, Bounds, INTEGER, SOME_BELOW, Shape, UNIT, nested, row, still};
 use document::table::{WIDTH, WORDS};
+use std::str;
 use table_rows::below;
 
-// The text bytes taken with what was checked; or that it is none.
-#[derive(Clone, Copy)]
-pub struct Checked {
-    pub good: bool,
-    pub text: usize,
-}
+const SEQUENCE: Shape = Shape {
+    tag: 5,
+    below: SOME_BELOW,
+    ..BLANK
+};
+
+const POSOLOGY: Shape = Shape {
+    tag: 15,
+    below: SOME_BELOW,
+    a: INTEGER,
+    b: UNIT,
+    ..BLANK
+};
+
+const PAUSE: Shape = Shape {
+    tag: 16,
+    a: INTEGER,
+    b: UNIT,
+    ..BLANK
+};
 
 // Whether so many bytes of the buffer behind the first `text` are UTF-8.
 fn utf8_part(buffer: &[u8], text: usize, len: usize) -> bool
     requires { text + len ≤ length buffer.now }
     ensures { result ≡ is_utf8 (take len (drop text buffer.now)) }
 {
-    let end = text + len;
-    utf8::is_utf8(&buffer[text..end])
+    str::from_utf8(&buffer[text..text + len]).is_ok()
 }
 
 // A string of the buffer, right behind the text bytes that are taken, not empty and UTF-8.
 pub(crate) fn string(buffer: &[u8], start: usize, len: usize, text: usize) -> bool
     ensures { Decides (StringAt buffer.now text start len) result }
 {
-    if start < text {
-        return false;
-    }
-    if text < start {
-        return false;
-    }
-    if len < 1 {
-        return false;
-    }
-    if buffer.len() < text {
-        return false;
-    }
-    if buffer.len() - text < len {
-        return false;
-    }
-    if utf8_part(buffer, text, len) {
-        return true;
-    }
-    false
+    start == text
+        && 0 < len
+        && text <= buffer.len()
+        && len <= buffer.len() - text
+        && utf8_part(buffer, text, len)
 }
 
 fn free_text(words: &[u64; WORDS], i: usize, buffer: &[u8], text: usize) -> bool
@@ -57,76 +56,33 @@ fn free_text(words: &[u64; WORDS], i: usize, buffer: &[u8], text: usize) -> bool
     if buffer.len() < text {
         return false;
     }
-    let room = buffer.len() - text;
-    if row(
-        words,
-        i,
-        2,
-        0,
-        0,
-        text as u64,
-        text as u64,
-        1,
-        room as u64,
-        0,
-        0,
-        0,
-        0,
-    ) {
-        let len = table_rows::b(words, i) as usize;
-        if utf8_part(buffer, text, len) {
-            return true;
-        }
-        return false;
-    }
-    false
+    let shape = Shape {
+        tag: 2,
+        a: Bounds {
+            least: text as u64,
+            most: text as u64,
+        },
+        b: Bounds {
+            least: 1,
+            most: (buffer.len() - text) as u64,
+        },
+        ..BLANK
+    };
+    row(words, i, shape) && utf8_part(buffer, text, table_rows::b(words, i) as usize)
 }
 
 // One object of a sequence at i.
 #[cycle(details)]
-fn object(words: &[u64; WORDS], i: usize, left: usize, buffer: &[u8], text: usize) -> Checked
+fn object(words: &[u64; WORDS], i: usize, left: usize, buffer: &[u8], text: usize) -> Option<usize>
     ensures { Checks (λ u. ObjectAt words.now buffer.now left i text u) result }
 {
-    if row(words, i, 16, 0, 0, 1, MOST_INTEGER, 1, 7, 0, 0, 0, 0) {
-        return Checked {
-            good: true,
-            text: text,
-        };
+    if row(words, i, PAUSE) {
+        return Some(text);
     }
-    if row(
-        words,
-        i,
-        15,
-        1,
-        MOST_BELOW,
-        1,
-        MOST_INTEGER,
-        1,
-        7,
-        0,
-        0,
-        0,
-        0,
-    ) {
-        let c = detail(words, i + 1, left, buffer, text);
-        if c.good {
-            if nested(words, i) {
-                return c;
-            }
-            return Checked {
-                good: false,
-                text: 0,
-            };
-        }
-        return Checked {
-            good: false,
-            text: 0,
-        };
+    if !row(words, i, POSOLOGY) || !nested(words, i) {
+        return None;
     }
-    Checked {
-        good: false,
-        text: 0,
-    }
+    detail(words, i + 1, left, buffer, text)
 }
 
 // The objects from i on, up to record `end`: at least one.
@@ -138,58 +94,41 @@ fn objects(
     left: usize,
     buffer: &[u8],
     text: usize,
-) -> Checked
+) -> Option<usize>
     requires { end ≤ 128 }
     ensures { Checks (λ u. ObjectsAt words.now buffer.now left end i text u) result }
 {
     let mut at = i;
     let mut used = text;
     while at < end {
-        let c = object(words, at, left, buffer, used);
-        if c.good {
-            let n = below(words, at);
-            let next = at + 1 + n;
-            if next == end {
-                return c;
-            }
-            used = c.text;
-            at = next;
-        } else {
-            return Checked {
-                good: false,
-                text: 0,
-            };
+        used = object(words, at, left, buffer, used)?;
+        at += 1 + below(words, at);
+        if at == end {
+            return Some(used);
         }
     }
-    Checked {
-        good: false,
-        text: 0,
-    }
+    None
 }
 
 #[cycle(details)]
-fn sequence(words: &[u64; WORDS], i: usize, left: usize, buffer: &[u8], text: usize) -> Checked
+fn sequence(
+    words: &[u64; WORDS],
+    i: usize,
+    left: usize,
+    buffer: &[u8],
+    text: usize,
+) -> Option<usize>
     ensures { Checks (λ u. SequenceAt words.now buffer.now left i text u) result }
 {
-    if left < 1 {
-        return Checked {
-            good: false,
-            text: 0,
-        };
+    if left == 0 || !row(words, i, SEQUENCE) {
+        return None;
     }
-    if row(words, i, 5, 1, MOST_BELOW, 0, 0, 0, 0, 0, 0, 0, 0) {
-        let first = i + 1;
-        let n = below(words, i);
-        let end = first + n;
-        return objects(words, first, end, left - 1, buffer, text);
-    }
-    Checked {
-        good: false,
-        text: 0,
-    }
+    let first = i + 1;
+    let end = first + below(words, i);
+    objects(words, first, end, left - 1, buffer, text)
 }
 
-// A detail at i, in which so many sequences may still open.
+// A detail at i, in which so many sequences may still open: the text bytes taken with it.
 #[cycle(details)]
 pub(crate) fn detail(
     words: &[u64; WORDS],
@@ -197,21 +136,14 @@ pub(crate) fn detail(
     left: usize,
     buffer: &[u8],
     text: usize,
-) -> Checked
+) -> Option<usize>
     ensures { Checks (λ u. DetailAt words.now buffer.now left i text u) result }
 {
     if still(words, i) {
-        return Checked {
-            good: true,
-            text: text,
-        };
+        return Some(text);
     }
     if free_text(words, i, buffer, text) {
-        let len = table_rows::b(words, i) as usize;
-        return Checked {
-            good: true,
-            text: text + len,
-        };
+        return Some(text + table_rows::b(words, i) as usize);
     }
     sequence(words, i, left, buffer, text)
 }
@@ -221,11 +153,9 @@ pub(crate) fn unused(words: &[u64], i: usize) -> bool
     requires { (length words.now ≡ words_at_most) × (i ≤ 64) }
     ensures { Decides (Zeros words.now (i * width)) result }
 {
-    let mut at = i * WIDTH;
     let mut zero = true;
-    while at < words.len() {
-        zero = zero & (words[at] == 0);
-        at += 1;
+    for word in &words[i * WIDTH..] {
+        zero &= *word == 0;
     }
     zero
 }

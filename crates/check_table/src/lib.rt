@@ -3,6 +3,5 @@
 
 mod check;
 mod check_head;
-mod utf8;
 
 pub use check_head::is_readable;

@@ -1,13 +1,7 @@
 -- The words looked at so far decide the answer so far.
-use Prim.Native.Nat.{◌-◌, ◌*◌, ◌≤◌}
-use lib.ListN.{length}
-use Rattle.document.specs.Words.{width}
-use Rattle.check_doses.specs.Doses.{Decides}
+use Rattle.check_doses.specs.Shapes.{Decides}
 use Rattle.check_table.proofs.Laid.{ZerosTo}
 use Rattle.check_table.proofs.check.unused.Given as goal
 
-abbrev pub invariant-loop-at : goal.invariant-loop-at
-invariant-loop-at l = (l.i * width ≤ l.at) × (l.at ≤ length l.words) × Decides (ZerosTo l.words (l.i * width) l.at) l.zero
-
-abbrev pub decreases-loop-at : goal.decreases-loop-at
-decreases-loop-at l = length l.words - l.at
+abbrev pub invariant-loop-word : goal.invariant-loop-word
+invariant-loop-word l = Decides (ZerosTo l.word-items l.word-index) l.zero
