@@ -5,6 +5,6 @@ pub returns-then-n-lt10 : goal.returns-then-n-lt10
 returns-then-n-lt10 c =
     search rows depth 20
 
-pub returns : goal.returns
-returns c =
+pub returns-else-n-lt10 : goal.returns-else-n-lt10
+returns-else-n-lt10 c =
     search rows depth 20

@@ -1,12 +1,10 @@
-use Rattle.write_bytes.proofs.Laid.{puts_as}
+use native.Mathlib.Omega.{arith}
+use Rattle.std.proofs.Common.{inl, inr}
+use Rattle.write_bytes.proofs.Laid.{lays_as}
 use Rattle.json_grammar.specs.Rows.{look}
 use Rattle.document.specs.Spell.{escaped}
 use Rattle.write_strings.proofs.Chars.{escaped_control, escaped_itself}
 use Rattle.write_strings.proofs.put_char.Goals as goal
-
-pub returns-then-b-lt32 : goal.returns-then-b-lt32
-returns-then-b-lt32 c k =
-    puts_as (escaped_control _ k c.if-b-lt32.true c.in_default.in_default-own.rest.0.0.0.0.0.0.1 c.in_default.in_default-own.rest.0.0.0.0.0.1 c.in_default.in_default-own.rest.0.0.0.0.1 c.in_default.in_default-own.rest.0.0.0.1 c.in_default.in_default-own.rest.0.0.1) (c.put_control.ensures k)
 
 pub returns-in-8 : goal.returns-in-8
 unfolding escaped look
@@ -36,13 +34,15 @@ returns-in-13 c k =
 pub returns-in-34 : goal.returns-in-34
 unfolding escaped look
 returns-in-34 c k =
-    rw c.in-34.is (c.put_escape-in-34.ensures k)
+    elim c.in-34.is [
+      | inl e ↦ rw e (rw e at (c.put_escape-in-34.ensures k))
+      | inr e ↦ rw e (rw e at (c.put_escape-in-34.ensures k))
+    ]
 
-pub returns-in-92 : goal.returns-in-92
-unfolding escaped look
-returns-in-92 c k =
-    rw c.in-92.is (c.put_escape-in-92.ensures k)
+pub returns-in_default : goal.returns-in_default
+returns-in_default c k =
+    lays_as (escaped_control _ k c.if-b-lt32.true (λ e. omega (arith, e)) (λ e. omega (arith, e)) (λ e. omega (arith, e)) (λ e. omega (arith, e)) (λ e. omega (arith, e))) (c.put_control.ensures k)
 
-pub returns-else-b-lt32 : goal.returns-else-b-lt32
-returns-else-b-lt32 c k =
-    puts_as (escaped_itself _ k c.if-b-lt32.false c.in_default.in_default-own.rest.0.1 c.in_default.in_default-own.rest.1) (c.put.ensures k)
+pub returns-in_default-2 : goal.returns-in_default-2
+returns-in_default-2 c k =
+    lays_as (escaped_itself _ k c.if-b-lt32.false (λ e. grind (arith, e)) (λ e. grind (arith, e))) (c.put.ensures k)
