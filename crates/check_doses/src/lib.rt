@@ -113,10 +113,15 @@ fn interval(words: &[u64; WORDS], i: usize) -> bool
 fn timed(words: &[u64; WORDS], i: usize, unit: Option<u64>) -> bool
     ensures { Decides (TimedAt words.now i unit) result }
 {
-    plain(words, i)
-        || unit.is_some() && interval(words, i)
-        || unit == Some(5) && days(words, i, WEEK_DAYS)
-        || unit == Some(6) && days(words, i, DAYS_OF_MONTH)
+    if plain(words, i) {
+        return true;
+    }
+    let Some(unit) = unit else {
+        return false;
+    };
+    interval(words, i)
+        || unit == 5 && days(words, i, WEEK_DAYS)
+        || unit == 6 && days(words, i, DAYS_OF_MONTH)
 }
 
 fn single(words: &[u64; WORDS], i: usize) -> bool
