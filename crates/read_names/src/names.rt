@@ -45,6 +45,7 @@ pub enum Name {
 pub(crate) const NAMES: usize = 33;
 
 // Of at most seven bytes.
+#[tactic(auto, unfolding(crate::specs::Names::short_index))]
 fn short_name(head: u64) -> Option<Name>
     ensures { numbered result ≡ short_index head }
 {

@@ -13,6 +13,7 @@ pub(crate) struct Packed {
     pub letters: usize,
 }
 
+#[tactic(auto, using(crate::proofs::Packing::no_letter))]
 pub(crate) fn no_letter() -> Packed
     ensures { Packs [] result }
 {

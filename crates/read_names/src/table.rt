@@ -14,6 +14,7 @@ const PLACES: usize = 65535;
 
 // One byte more in a hash of two halves: the low one is the middle of a product, so that names which differ in a digit or two do not start side by side.
 // The factor depends on the seed and on what came before: were it one for all, names that meet under one seed would often meet under another.
+#[tactic(auto, unfolding(crate::specs::Names::hash_on))]
 fn hash_on(seed: u64, h: u64, b: u8) -> u64
     ensures { result ≡ hash_on seed h b }
 {
@@ -37,6 +38,7 @@ impl Takes for Hash {
 
     ghost took_none = { hashes_none };
 
+    #[tactic(auto, using(crate::proofs::Hashing::hash_more))]
     fn with(self, b: u8) -> Hash {
         Hash {
             seed: self.seed,
@@ -66,6 +68,7 @@ const GOLDEN: u64 = 0x9E3779B97F4A7C15;
 
 // A text's own seed, so that names which meet in one slot have to be found anew for every text. It goes over the text twice, the second time
 // by what the first came to: else a text could be given the seed that its names were found for, from both its ends at once.
+#[tactic(auto, unfolding(crate::specs::Names::seed_of))]
 pub(crate) fn seed_of(text: &[u8]) -> u64
     ensures { result ≡ seed_of text.now }
 {
@@ -73,6 +76,7 @@ pub(crate) fn seed_of(text: &[u8]) -> u64
 }
 
 // Where the search for a name starts. The last slots are no start, so that few searches reach the end.
+#[tactic(auto, unfolding(crate::specs::Names::first_slot))]
 fn first_slot(text: &[u8], quote: usize, seed: u64) -> usize
     ensures { result ≡ first_slot seed (decoded (drop quote text.now)) }
 {
@@ -92,6 +96,7 @@ pub(crate) enum Found {
     Nowhere,
 }
 
+#[tactic(auto, using(crate::proofs::Searching::search_found, crate::proofs::Searching::search_on))]
 pub(crate) fn look_up(text: &[u8], quote: usize, seed: u64, table: &[u16; TABLE]) -> Found
     ensures { Sought seed text.now quote table.now result }
 {

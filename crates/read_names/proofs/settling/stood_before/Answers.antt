@@ -4,10 +4,6 @@ use native.Mathlib.Omega.{arith}
 use Rattle.read_names.proofs.Before.{before_here, before_on, before_none}
 use Rattle.read_names.proofs.settling.stood_before.Goals as goal
 
-pub loop-init : goal.loop-init
-loop-init c =
-    let z : c.args.members - 0 ≡ c.args.members = omega arith in rw (c.first_in-q.ensures.lands, z)
-
 pub returns-then-names_same : goal.returns-then-names_same
 returns-then-names_same c =
     before_here _ _ _ (omega arith) (sym c.if-names_same.true ∙ c.names_same.ensures) ∙ c.loop.invariant
