@@ -13,11 +13,10 @@ use Rattle.json_grammar.specs.Number.{onward}
 use Rattle.json_grammar.specs.declared.string.Lead.{Lead}
 use Rattle.json_grammar.specs.declared.string.Lead.TheVariants.{Control, Ascii, Quote, Backslash, Stray, Two, E0, Three, Ed, F0, Four, F4}
 use Rattle.json_grammar.specs.declared.string.Letter.{Letter}
-use Rattle.json_grammar.specs.declared.string.Letter.TheVariants.{Means, Unicode, NoLetter}
+use Rattle.json_grammar.specs.declared.string.Letter.TheVariants.{Means, Unicode}
 use Rattle.json_grammar.specs.declared.number.InNumber.{InNumber}
 use Rattle.json_grammar.specs.declared.number.InNumber.TheVariants.{Start, Minus, Zero, Whole, Point, Fraction, Mark, Sign, Power}
-use Rattle.json_grammar.specs.declared.number.DigitStep.{DigitStep}
-use Rattle.json_grammar.specs.declared.number.DigitStep.TheVariants.{Onward, Over}
+use Rattle.std.specs.Prelude.{Option, Some, None}
 use Rattle.json_laws.proofs.Tables.{each, by_rows, tables, always, rows_from}
 
 -- A byte that a test holds of is no byte that it does not hold of.
@@ -36,9 +35,9 @@ bound lo hi b = each (Bound lo hi b) 0 b (below lo false (below hi true (else fa
 pub within_is : (lo hi b : ℕ) → within lo hi b ≡ true → (lo ≤ b) × (b < hi)
 within_is lo hi b e = rw e at (bound lo hi b)
 
-abbrev is_onward : DigitStep → Bool
-is_onward (Onward m) = true
-is_onward Over = false
+abbrev is_onward : Option InNumber → Bool
+is_onward (Some m) = true
+is_onward None = false
 
 abbrev pub implies : Bool → Bool → Bool
 implies a b = not a || b
@@ -69,7 +68,7 @@ onward_bounds Mark = 43 ∷ 44 ∷ 45 ∷ 46 ∷ 48 ∷ 58 ∷ []
 onward_bounds Sign = 48 ∷ 58 ∷ []
 onward_bounds Power = 48 ∷ 58 ∷ []
 
-abbrev only_numeric : DigitStep → Bool → Bool
+abbrev only_numeric : Option InNumber → Bool → Bool
 only_numeric x y = implies (is_onward x) y
 
 -- by the tables of a part of a number and of the bytes of numbers
@@ -91,15 +90,15 @@ onward_or_numeric Sign b = by_part Sign b refl refl
 onward_or_numeric Power b = by_part Power b refl refl
 
 -- A number goes on with none but the bytes that numbers are written with.
-pub onward_numeric : (n : InNumber) (b : ℕ) {m : InNumber} → onward n b ≡ Onward m → is_numeric b ≡ true
+pub onward_numeric : (n : InNumber) (b : ℕ) {m : InNumber} → onward n b ≡ Some m → is_numeric b ≡ true
 onward_numeric n b e = implied (is_onward (onward n b)) (is_numeric b) (onward_or_numeric n b) (ap is_onward e)
 
-pub not_numeric_over : (n : InNumber) (b : ℕ) → is_numeric b ≡ false → onward n b ≡ Over
+pub not_numeric_over : (n : InNumber) (b : ℕ) → is_numeric b ≡ false → onward n b ≡ None
 not_numeric_over n b e = step (onward n b) refl
   where
-    step : (x : DigitStep) → onward n b ≡ x → x ≡ Over
-    step (Onward m) h = absurd (true≢false (sym (onward_numeric n b h) ∙ e))
-    step Over h = refl
+    step : (x : Option InNumber) → onward n b ≡ x → x ≡ None
+    step (Some m) h = absurd (true≢false (sym (onward_numeric n b h) ∙ e))
+    step None h = refl
 
 abbrev neither : Bool → Bool → Bool
 neither x y = not (x && y)
@@ -147,19 +146,19 @@ backslash_is b e = rw e at (known b)
 abbrev pub letter_bounds : List ℕ
 letter_bounds = 34 ∷ 35 ∷ 47 ∷ 48 ∷ 92 ∷ 93 ∷ 98 ∷ 99 ∷ 102 ∷ 103 ∷ 110 ∷ 111 ∷ 114 ∷ 115 ∷ 116 ∷ 117 ∷ 118 ∷ []
 
-abbrev is_unicode : Letter → Bool
-is_unicode (Means m) = false
-is_unicode Unicode = true
-is_unicode NoLetter = false
+abbrev is_unicode : Option Letter → Bool
+is_unicode (Some (Means m)) = false
+is_unicode (Some Unicode) = true
+is_unicode None = false
 
-abbrev only_u : Letter → Bool → Bool
+abbrev only_u : Option Letter → Bool → Bool
 only_u x y = implies (is_unicode x) y
 
 abbrev IsU : ℕ → Bool → Type 0
 IsU b true = b ≡ 117
 IsU b false = Unit {0}
 
-pub unicode_is : (b : ℕ) → letter b ≡ Unicode → b ≡ 117
+pub unicode_is : (b : ℕ) → letter b ≡ Some Unicode → b ≡ 117
 unfolding letter look always within
 unicode_is b e = rw (implied (is_unicode (letter b)) (within 117 118 b) (tables only_u letter letter_bounds (λ c. within 117 118 c) (117 ∷ 118 ∷ []) b refl refl refl) (ap is_unicode e)) at u
   where

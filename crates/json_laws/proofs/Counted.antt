@@ -18,8 +18,7 @@ use Rattle.json_grammar.specs.declared.string.CharStep.{CharStep}
 use Rattle.json_grammar.specs.declared.string.CharStep.TheVariants.{Goes, Closes, Refuses}
 use Rattle.json_grammar.specs.declared.number.InNumber.{InNumber}
 use Rattle.json_grammar.specs.declared.number.InNumber.TheVariants.{Start}
-use Rattle.json_grammar.specs.declared.number.DigitStep.{DigitStep}
-use Rattle.json_grammar.specs.declared.number.DigitStep.TheVariants.{Onward, Over}
+use Rattle.std.specs.Prelude.{Option, Some, None}
 use Rattle.json_grammar.specs.Walk as W
 use Rattle.json_grammar.specs.Walk.{Frame, Mode, step, Next, wrong, deep, ended, go}
 use Rattle.json_laws.specs.Open.{open_after, open_quoted, open_escaped}
@@ -132,9 +131,9 @@ module _ (b : ℕ) (k : List Frame) where
   object_out : b ≡ 123 → Out b k (W.opened W.an_object W.first_name k)
   object_out e = opened_out W.an_object W.first_name tt (λ w. refl) (inr e)
 
-  number_out : (n : InNumber) (x : DigitStep) → onward n b ≡ x → Out b k (W.digits x k)
-  number_out n (Onward m) e = (tt, (λ l. l), λ w. number_byte b (length k) w (onward_numeric n b e))
-  number_out n Over e = tt
+  number_out : (n : InNumber) (x : Option InNumber) → onward n b ≡ x → Out b k (W.digits x k)
+  number_out n (Some m) e = (tt, (λ l. l), λ w. number_byte b (length k) w (onward_numeric n b e))
+  number_out n None e = tt
 
   word_out : (v : List ℕ) (c : ℕ) → b ≡ c → is_letter c ≡ true → Letters v → Out b k (go (W.in_word v) k)
   word_out v c e h l = (l, (λ q. q), λ w. letter_byte b (length k) w (rw e h))
@@ -173,9 +172,9 @@ behind_out b (W.an_object ∷ k) =
     blank_out b l W.behind _ tt (λ w. refl) (past b l W.name 44 tt (λ w. refl) (λ w. refl) _
     (choose_by (Out b l) (eqb b 125) _ _ (λ e. shut_out b l (inr (eqb-true b 125 e))) (λ _. tt)))
 
-digits_out : (b : ℕ) (k : List Frame) (n : InNumber) (x : DigitStep) → onward n b ≡ x → Out b k (W.step_digits n x b k)
-digits_out b k n (Onward m) e = number_out b k n (Onward m) e
-digits_out b k n Over e = choose_by (Out b k) (may_end n) _ _ (λ _. behind_out b k) (λ _. tt)
+digits_out : (b : ℕ) (k : List Frame) (n : InNumber) (x : Option InNumber) → onward n b ≡ x → Out b k (W.step_digits n x b k)
+digits_out b k n (Some m) e = number_out b k n (Some m) e
+digits_out b k n None e = choose_by (Out b k) (may_end n) _ _ (λ _. behind_out b k) (λ _. tt)
 
 spell_out : (b : ℕ) (k : List Frame) (v : List ℕ) → Letters v → Out b k (W.step_word v b k)
 spell_out b k [] l = tt

@@ -9,8 +9,9 @@ use Rattle.json_grammar.specs.Byte.{is_tail}
 use Rattle.json_grammar.specs.String.{lead, letter}
 use Rattle.json_grammar.specs.declared.string.Lead.{Lead}
 use Rattle.json_grammar.specs.declared.string.Lead.TheVariants.{Control, Ascii, Quote, Backslash, Stray, Two, E0, Three, Ed, F0, Four, F4}
+use Rattle.std.specs.Prelude.{Option, Some, None}
 use Rattle.json_grammar.specs.declared.string.Letter.{Letter}
-use Rattle.json_grammar.specs.declared.string.Letter.TheVariants.{Means, Unicode, NoLetter}
+use Rattle.json_grammar.specs.declared.string.Letter.TheVariants.{Means, Unicode}
 use Rattle.json_grammar.specs.Grammar as G
 use Rattle.json_grammar.specs.Grammar.{Char, Chars, four, paired}
 use Rattle.json_laws.specs.Utf8 as U
@@ -44,10 +45,10 @@ unfolding is_tail
 tail_is b e = within_is 0x80 0xC0 b e
 
 -- What a letter stands for.
-abbrev Meant : Letter → Type 0
-Meant (Means m) = In 0x00 0x7F m
-Meant Unicode = Unit {0}
-Meant NoLetter = Unit {0}
+abbrev Meant : Option Letter → Type 0
+Meant (Some (Means m)) = In 0x00 0x7F m
+Meant (Some Unicode) = Unit {0}
+Meant None = Unit {0}
 
 letter_means : (e : ℕ) → Meant (letter e)
 unfolding letter look

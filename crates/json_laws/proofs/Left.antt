@@ -10,8 +10,10 @@ use Rattle.json_grammar.specs.Byte.{is_hex, is_d, is_to_7, is_8_to_b, is_c_to_f,
 use Rattle.json_grammar.specs.String.{lead, letter, after, after_lead, after_letter, go_if}
 use Rattle.json_grammar.specs.declared.string.Lead.{Lead}
 use Rattle.json_grammar.specs.declared.string.Lead.TheVariants.{Control, Ascii, Quote, Backslash, Stray, Two, E0, Three, Ed, F0, Four, F4}
+use Rattle.std.specs.Prelude as O
+use Rattle.std.specs.Prelude.{Option}
 use Rattle.json_grammar.specs.declared.string.Letter.{Letter}
-use Rattle.json_grammar.specs.declared.string.Letter.TheVariants.{Means, Unicode, NoLetter}
+use Rattle.json_grammar.specs.declared.string.Letter.TheVariants.{Means, Unicode}
 use Rattle.json_grammar.specs.declared.string.InString.{InString}
 use Rattle.json_grammar.specs.declared.string.InString.TheVariants.{Plain, Escape, Unit as AUnit, UnitD, Digit3, Digit2, Digit1, High2, High1, Slash, LetterU, SecondD, SecondC, Tail3, Tail2, Tail1, AfterE0, AfterEd, AfterF0, AfterF4}
 use Rattle.json_grammar.specs.declared.string.CharStep.{CharStep}
@@ -49,7 +51,7 @@ pub data Units : List ℕ → List ℕ → Type 0 where
 
 -- Behind a backslash.
 pub data Escaped : List ℕ → List ℕ → Type 0 where
-  means : {e m : ℕ} {s r : List ℕ} → letter e ≡ Means m → Some s r → Escaped (e ∷ s) r
+  means : {e m : ℕ} {s r : List ℕ} → letter e ≡ O.Some (Means m) → Some s r → Escaped (e ∷ s) r
   unicode : {s r : List ℕ} → Units s r → Escaped (117 ∷ s) r
 
 abbrev pub Left : InString → List ℕ → List ℕ → Type 0
@@ -135,10 +137,10 @@ lead_left b F0 e h = after_f0 e h
 lead_left b Four e h = after_four e h
 lead_left b F4 e h = after_f4 e h
 
-letter_left : {s r : List ℕ} (b : ℕ) (x : Letter) → letter b ≡ x → LeftAfter (after_letter x) s r → Escaped (b ∷ s) r
-letter_left b (Means m) e h = means e h
-letter_left b Unicode e h = rw (unicode_is b e) (unicode h)
-letter_left b NoLetter e h = absurd h
+letter_left : {s r : List ℕ} (b : ℕ) (x : Option Letter) → letter b ≡ x → LeftAfter (after_letter x) s r → Escaped (b ∷ s) r
+letter_left b (O.Some (Means m)) e h = means e h
+letter_left b (O.Some Unicode) e h = rw (unicode_is b e) (unicode h)
+letter_left b O.None e h = absurd h
 
 if_left : (n : InString) (s r : List ℕ) {P : Type 0} (t : Bool) → (t ≡ true → Left n s r → P) → LeftAfter (go_if t n) s r → P
 if_left n s r true f h = f refl h

@@ -9,8 +9,9 @@ use Rattle.json_grammar.specs.Byte.{is_hex, is_d, is_to_7, is_8_to_b, is_c_to_f,
 use Rattle.json_grammar.specs.String.{lead, letter, after, after_lead, after_letter, go_if}
 use Rattle.json_grammar.specs.declared.string.Lead.{Lead}
 use Rattle.json_grammar.specs.declared.string.Lead.TheVariants.{Control, Ascii, Quote, Backslash, Stray, Two, E0, Three, Ed, F0, Four, F4}
+use Rattle.std.specs.Prelude.{Option, Some, None}
 use Rattle.json_grammar.specs.declared.string.Letter.{Letter}
-use Rattle.json_grammar.specs.declared.string.Letter.TheVariants.{Means, Unicode, NoLetter}
+use Rattle.json_grammar.specs.declared.string.Letter.TheVariants.{Means, Unicode}
 use Rattle.json_grammar.specs.declared.string.InString.{InString}
 use Rattle.json_grammar.specs.declared.string.InString.TheVariants.{Plain, Escape, Unit as AUnit, UnitD, Digit3, Digit2, Digit1, High2, High1, Slash, LetterU, SecondD, SecondC, Tail3, Tail2, Tail1, AfterE0, AfterEd, AfterF0, AfterF4}
 use Rattle.json_grammar.specs.declared.string.CharStep.{CharStep}
@@ -132,10 +133,10 @@ lead_seen b F0 e = itself b e refl refl
 lead_seen b Four e = itself b e refl refl
 lead_seen b F4 e = itself b e refl refl
 
-letter_seen : (b : ℕ) (x : Letter) → Seen Escape b (after_letter x)
-letter_seen b (Means m) = skipped refl refl
-letter_seen b Unicode = skipped refl refl
-letter_seen b NoLetter = stray
+letter_seen : (b : ℕ) (x : Option Letter) → Seen Escape b (after_letter x)
+letter_seen b (Some (Means m)) = skipped refl refl
+letter_seen b (Some Unicode) = skipped refl refl
+letter_seen b None = stray
 
 pub seen : (c : InString) (b : ℕ) → Seen c b (after c b)
 unfolding after

@@ -14,7 +14,7 @@ use Rattle.json_grammar.specs.Number.{onward}
 use Rattle.json_grammar.specs.declared.string.InString.{InString}
 use Rattle.json_grammar.specs.declared.number.InNumber.{InNumber}
 use Rattle.json_grammar.specs.declared.number.InNumber.TheVariants.{Start}
-use Rattle.json_grammar.specs.declared.number.DigitStep.TheVariants.{Onward}
+use Rattle.std.specs.Prelude.{Some}
 use Rattle.json_grammar.specs.Grammar.{Blanks, here, blank, Digits, over, stop, next, Value, an_empty_object, an_object, an_empty_list, a_list, a_string, a_number, a_true, a_false, a_null, Listed, first, Behind, bracket, next_element, Named, name, Follows, brace, next_member}
 use Rattle.json_grammar.specs.Walk as W
 use Rattle.json_grammar.specs.Walk.{Frame, Mode, walk, step, Walked, end, refused3, onto, Next, deep, go}
@@ -129,17 +129,17 @@ digits_through k (next e d) = rw e (digits_through k d)
 not_eq : (b x : ℕ) → is_numeric b ≡ true → is_numeric x ≡ false → eqb b x ≡ false
 not_eq b x h e = apart is_numeric b x h e
 
-begin_number : (b : ℕ) (k : List Frame) {m : InNumber} → onward Start b ≡ Onward m → W.begin b k ≡ go (W.in_number m) k
+begin_number : (b : ℕ) (k : List Frame) {m : InNumber} → onward Start b ≡ Some m → W.begin b k ≡ go (W.in_number m) k
 unfolding is_numeric
 begin_number b k e =
     let h = onward_numeric Start b e in
     rw (not_eq b 34 h refl, not_eq b 123 h refl, not_eq b 91 h refl, not_eq b 116 h refl, not_eq b 102 h refl, not_eq b 110 h refl, e)
 
-number_value : (b : ℕ) (k : List Frame) {m : InNumber} → onward Start b ≡ Onward m → step W.value b k ≡ go (W.in_number m) k
+number_value : (b : ℕ) (k : List Frame) {m : InNumber} → onward Start b ≡ Some m → step W.value b k ≡ go (W.in_number m) k
 unfolding step
 number_value b k e = rw (numeric_not_blank b (onward_numeric Start b e)) (begin_number b k e)
 
-number_first : (b : ℕ) (k : List Frame) {m : InNumber} → onward Start b ≡ Onward m → step W.first_element b k ≡ go (W.in_number m) k
+number_first : (b : ℕ) (k : List Frame) {m : InNumber} → onward Start b ≡ Some m → step W.first_element b k ≡ go (W.in_number m) k
 unfolding step is_numeric
 number_first b k e = let h = onward_numeric Start b e in rw (numeric_not_blank b h, not_eq b 93 h refl) (begin_number b k e)
 
