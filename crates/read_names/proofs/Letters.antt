@@ -40,13 +40,6 @@ module _ (took : List ℕ → Type 0) {bytes rest : List ℕ} where
         whole = append_assoc a.done more s ∙ rw e at a.whole;
       }
 
--- ---- those of a part of a text
-pub part_on : (text : List ℕ) (i end : ℕ) → i < end → end ≤ length text → slice i end text ≡ (get_or text i 0 ∷ []) ++ slice (i + 1) end text
-part_on text i end h l = rw add-one (slice-cons i end text 0 h l)
-
-pub part_ends : (text : List ℕ) (i end : ℕ) → end ≤ i → slice i end text ≡ []
-part_ends text i end h = drop_of_length-le (take end text) {i = i} (simp length-take (omega arith))
-
 -- ---- plain ASCII letters
 pub plain_on : (text : List ℕ) (i : ℕ) → i < length text → not (is_ascii (get_or text i 0)) ≡ false → plain_from text i ≡ (get_or text i 0 ∷ []) ++ plain_from text (i + 1)
 plain_on text i h e = ascii_from text i h (ascii_lead _ (not-false _ e))

@@ -3,7 +3,6 @@ mod Packing
 mod Numbered
 mod Naming
 mod Letters
-mod Turns
 mod Hashing
 mod Searching
 mod Entries

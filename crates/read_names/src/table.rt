@@ -60,7 +60,7 @@ fn no_byte(seed: u64) -> Hash
 fn hash_of(text: &[u8], seed: u64) -> u64
     ensures { result ≡ hash_of seed text.now }
 {
-    taking::part(no_byte(seed), text, 0, text.len().min(PLACES)).hash
+    taking::all(no_byte(seed), &text[..text.len().min(PLACES)]).hash
 }
 
 // The seed of the texts' own seeds: any number whose bits are mixed would do, as these of the golden ratio.

@@ -1,10 +1,10 @@
 // The bytes of a name, taken one after the other into what is told of them.
-ghost use Rattle.std.specs.Prelude.{ℕ, List, [], ◌∷◌, ◌++◌, ◌-◌, ◌≤◌, length, drop, IfSome};
-ghost use Rattle.std.proofs.Math.Seq.{slice};
+ghost use Rattle.std.specs.Prelude.{ℕ, List, [], ◌∷◌, ◌++◌, drop, IfSome};
 ghost use Rattle.json_grammar.specs.Tree.{Moves};
 ghost use Rattle.json_move.specs.Moving.{behind_colon, value_of};
 ghost use Rattle.json_move.specs.Read.{decoded};
 
+use json_decode::Pieces;
 use json_scan::string as spelled;
 
 pub(crate) trait Takes: Copy {
@@ -16,14 +16,12 @@ pub(crate) trait Takes: Copy {
     ghost took_none: { (start : Self) → took start [] start };
 }
 
-// The bytes from `from` up to `end`.
-pub(crate) fn part<T: Takes>(taken: T, text: &[u8], from: usize, end: usize) -> T
-    requires { end - from ≤ length text.now - from }
-    ensures { (start : T) (bytes : List ℕ) → T.took start bytes taken → T.took start (bytes ++ slice from end text.now) result }
+pub(crate) fn all<T: Takes>(taken: T, bytes: &[u8]) -> T
+    ensures { (start : T) (before : List ℕ) → T.took start before taken → T.took start (before ++ bytes.now) result }
 {
     let mut t = taken;
-    for i in from..end {
-        t = t.with(text[i]);
+    for b in bytes {
+        t = t.with(*b);
     }
     t
 }
@@ -54,18 +52,8 @@ pub(crate) fn decoded<T: Takes>(start: T, text: &[u8], quote: usize) -> T
     ensures { T.took start (decoded (drop quote text.now)) result }
 {
     let mut t = start;
-    let mut s = json_decode::spot_at(json_decode::behind(text, quote));
-    loop {
-        let end = json_decode::run_end(text, s);
-        t = part(t, text, s.at, end);
-        let next = json_decode::next_bytes(text, json_decode::behind_run(s, end));
-        let out = next.out;
-        let n = out.n;
-        if n == 0 {
-            return t;
-        }
-        let bytes = out.bytes;
-        t = part(t, &bytes, 0, n);
-        s = next.spot;
+    for piece in Pieces::of(text, quote) {
+        t = all(t, piece.as_slice());
     }
+    t
 }
