@@ -3,22 +3,21 @@
 
 ghost use Rattle.rewriter.specs.Rewriting.{Rewrites};
 
-use document::table::{LONGEST_PLAIN, TEXT_ROOM, WORDS, Writing};
+use document::refusal::Refusal;
+use document::table::{LONGEST_PLAIN, TEXT_ROOM, WORDS};
 
 // What is read is valid and fits, so that neither 18 nor 19 can come of writing it.
-pub fn rewrite(text: &[u8], purpose: u64, out: &mut [u8; LONGEST_PLAIN]) -> Writing
+pub fn rewrite(
+    text: &[u8],
+    purpose: u64,
+    out: &mut [u8; LONGEST_PLAIN],
+) -> Result<usize, Refusal>
     ensures { Rewrites purpose text.now out.old result out.new }
 {
     let mut strings = [0u8; TEXT_ROOM];
     let mut rows = [0u64; WORDS];
-    let h = posology::read_words(text, purpose, &mut strings, &mut rows);
-    if h.refused {
-        return Writing::Refused {
-            number: h.number,
-            place: h.place,
-        };
-    }
+    let h = posology::read_words(text, purpose, &mut strings, &mut rows)?;
     table_words::tidy(&mut rows, h.used.records);
     let n = write_posology::put_posology(out, 0, read_table::head_of(h), &rows, 0, &strings);
-    Writing::Written { length: n }
+    Ok(n)
 }

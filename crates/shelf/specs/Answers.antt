@@ -1,5 +1,5 @@
 -- Document 02, Wish 2: the number and values of each case of an answer, and the promise of fetching.
-use Rattle.std.specs.Prelude.{◌≡◌, List, cond, ℕ, ◌+◌, length}
+use Rattle.std.specs.Prelude.{◌≡◌, List, cond, ℕ, ◌+◌, length, Result, Ok, Err}
 use Rattle.std.proofs.Math.Option.{Option, none, some}
 use Rattle.std.proofs.lemmas.List.Edits.{sets}
 use Rattle.json_grammar.specs.Rows.{choose}
@@ -10,29 +10,28 @@ use Rattle.shelf_list.specs.Shelf.{Entry, is_number, stands, entries_in}
 use Rattle.shelf_list.specs.Calls.{Answer, stored, removed, standing, refused, fetched_from}
 use Rattle.shelf_bytes.specs.Layout.{record_bytes, has_room}
 use Rattle.shelf.specs.Survey.{place_under, size_under}
-use Rattle.shelf.specs.declared.answers.PutAnswer.{PutAnswer}
-use Rattle.shelf.specs.declared.answers.PutAnswer.TheVariants as P
-use Rattle.shelf.specs.declared.answers.RemoveAnswer.{RemoveAnswer}
-use Rattle.shelf.specs.declared.answers.RemoveAnswer.TheVariants as M
-use Rattle.shelf.specs.declared.answers.AtAnswer.{AtAnswer}
-use Rattle.shelf.specs.declared.answers.AtAnswer.TheVariants as A
-use Rattle.shelf.specs.declared.fetching.Found.{Found}
-use Rattle.shelf.specs.declared.fetching.Found.TheVariants as F
+use Rattle.document.specs.Refusals.{number_of, refusal}
+use Rattle.document.specs.declared.refusal.Reason.TheVariants.{NoShelf, NoNumber, NumberMissing}
+use Rattle.document.specs.declared.refusal.Refusal.{Refusal}
+use Rattle.shelf.specs.declared.fetching.Stretch.{Stretch}
 
-abbrev pub put_answer : PutAnswer → Answer
-put_answer (P.Stored l) = stored l
-put_answer (P.Refused n place) = refused n place
+abbrev pub refused_answer : Refusal → Answer
+refused_answer r = refused (number_of r.0) r.1
 
-abbrev pub remove_answer : RemoveAnswer → Answer
-remove_answer M.Removed = removed
-remove_answer (M.Refused n place) = refused n place
+abbrev pub put_answer : Result ℕ Refusal → Answer
+put_answer (Ok l) = stored l
+put_answer (Err r) = refused_answer r
 
-abbrev pub at_answer : AtAnswer → Answer
-at_answer (A.Standing n) = standing n
-at_answer (A.Refused n place) = refused n place
+abbrev pub remove_answer : Result (Unit {0}) Refusal → Answer
+remove_answer (Ok u) = removed
+remove_answer (Err r) = refused_answer r
+
+abbrev pub at_answer : Result ℕ Refusal → Answer
+at_answer (Ok n) = standing n
+at_answer (Err r) = refused_answer r
 
 -- A record laid behind the bytes that are used, if there is room.
-pub record StoresPlain (number used : ℕ) (text area : List ℕ) (r : PutAnswer) (area' : List ℕ) : Type 0 where
+pub record StoresPlain (number used : ℕ) (text area : List ℕ) (r : Result ℕ Refusal) (area' : List ℕ) : Type 0 where
   pub answer : put_answer r ≡ cond (has_room used text area) (stored (length text)) (refused 24 0)
   pub left : area' ≡ cond (has_room used text area) (sets area used (record_bytes number text)) area
 
@@ -43,16 +42,19 @@ pub record Fetches (number : ℕ) (area before : List ℕ) (r : Reading) (after 
   pub left : after ≡ buffer_after (fetched_from area number (length before)) before
 
 -- Where the plain text under a number stands, behind the head of its record.
-abbrev pub found_under : List Entry → ℕ → Found
+abbrev pub stretch : ℕ → ℕ → Stretch
+stretch from to = record { from = from; to = to }
+
+abbrev pub found_under : List Entry → ℕ → Result Stretch Refusal
 found_under es number =
     choose (is_number number) (λ _.
-    cond (stands number es) (F.At (place_under number es + 6) (place_under number es + size_under number es)) (F.Refused 23)) λ _.
-    F.Refused 21
+    cond (stands number es) (Ok (stretch (place_under number es + 6) (place_under number es + size_under number es))) (Err (refusal NumberMissing 0))) λ _.
+    Err (refusal NoNumber 0)
 
-abbrev pub found_in : Option (List Entry) → ℕ → Found
-found_in none number = F.Refused 20
+abbrev pub found_in : Option (List Entry) → ℕ → Result Stretch Refusal
+found_in none number = Err (refusal NoShelf 0)
 found_in (some es) number = found_under es number
 
-unfoldable pub found : List ℕ → ℕ → Found
+unfoldable pub found : List ℕ → ℕ → Result Stretch Refusal
 unfolding entries_in
 found a number = found_in (entries_in a) number

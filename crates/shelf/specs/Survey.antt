@@ -1,9 +1,12 @@
 -- What going over an area once tells of it.
-use Rattle.std.specs.Prelude.{◌≡◌, List, [], ◌∷◌, Bool, true, false, cond, ◌&&◌, ℕ, ◌+◌, eqb, length, take, drop}
+use Rattle.std.specs.Prelude.{◌≡◌, List, [], ◌∷◌, Bool, true, false, cond, ◌&&◌, ℕ, ◌+◌, eqb, length, take, drop, Option as Maybe, Some, None, Result, Ok, Err}
 use Rattle.std.proofs.Math.Option.{Option, none, some}
 use Rattle.shelf_list.specs.Shelf.{Entry, is_number, size, used, stands, is_plain, number_at, begins}
 use Rattle.shelf_list.specs.Calls.{number_standing}
 use Rattle.shelf_bytes.specs.Marks.{marked, mark, is_new}
+use Rattle.document.specs.Refusals.{refusal}
+use Rattle.document.specs.declared.refusal.Reason.TheVariants.{NoShelf, NoNumber}
+use Rattle.document.specs.declared.refusal.Refusal.{Refusal}
 use Rattle.shelf.specs.declared.survey.Survey.{Survey}
 
 -- The text of the record at a place.
@@ -15,9 +18,9 @@ unfoldable pub is_record : List ℕ → List ℕ → ℕ → Bool
 unfolding begins marked
 is_record set a i = begins (drop i a) && is_new set (number_at (drop i a) 2) && is_plain (text_at a i)
 
--- A record is passed by its size, and its number noted; else the size is 0.
-pub record Passes (set a : List ℕ) (i r : ℕ) (set' : List ℕ) : Type 0 where
-  pub size : r ≡ cond (is_record set a i) (6 + number_at (drop i a) 4) 0
+-- A record is passed by its size, and its number noted.
+pub record Passes (set a : List ℕ) (i : ℕ) (r : Maybe ℕ) (set' : List ℕ) : Type 0 where
+  pub size : r ≡ cond (is_record set a i) (Some (6 + number_at (drop i a) 4)) None
   pub noted : is_record set a i ≡ true → set' ≡ mark set (number_at (drop i a) 2)
 
 -- Where the record of a number begins, and how many bytes it takes: 0 and 0 where it is not there.
@@ -33,7 +36,6 @@ size_under n (e ∷ es) = cond (eqb n e.number) (size e) (size_under n es)
 abbrev pub survey_of : ℕ → ℕ → List Entry → Survey
 survey_of number position es =
     record {
-      shelf = true;
       used = used es;
       count = length es;
       from = place_under number es;
@@ -41,18 +43,15 @@ survey_of number position es =
       standing = number_standing position es;
     }
 
-abbrev pub no_shelf : Survey
-no_shelf = record { shelf = false; used = 0; count = 0; from = 0; size = 0; standing = 0 }
-
-abbrev pub surveyed : ℕ → ℕ → Option (List Entry) → Survey
-surveyed number position none = no_shelf
-surveyed number position (some es) = survey_of number position es
+-- None of an area that is no shelf.
+abbrev pub surveyed : ℕ → ℕ → Option (List Entry) → Maybe Survey
+surveyed number position none = None
+surveyed number position (some es) = Some (survey_of number position es)
 
 -- One record more, of number n.
 abbrev pub with_record : Survey → ℕ → ℕ → ℕ → ℕ → Survey
 with_record s n size number position =
     record {
-      shelf = s.shelf;
       used = s.used + size;
       count = s.count + 1;
       from = cond (eqb n number) s.used s.from;
@@ -60,6 +59,7 @@ with_record s n size number position =
       standing = cond (eqb s.count position) n s.standing;
     }
 
--- "Order: 20, 21, ..": 0 where neither is given.
-abbrev pub refusal_of : Survey → ℕ → ℕ
-refusal_of s number = cond s.shelf (cond (is_number number) 0 21) 20
+-- "Order: 20, 21, .."
+abbrev pub asked : Maybe Survey → ℕ → Result Survey Refusal
+asked None number = Err (refusal NoShelf 0)
+asked (Some s) number = cond (is_number number) (Ok s) (Err (refusal NoNumber 0))

@@ -1,44 +1,22 @@
-// What the calls answer, by the numbers and places of document 02, Wish 2; and the refusals that stand in front of the others.
+// What every call looks at first, in the order of document 02, Wish 2: whether the area is a shelf, and whether the number is one.
 ghost use Rattle.std.specs.Prelude.{◌≡◌};
-ghost use Rattle.shelf.specs.Survey.{refusal_of};
+ghost use Rattle.shelf.specs.Survey.{asked};
 
 use crate::survey::Survey;
+use document::refusal::{Reason, Refusal};
 
 // "a number from 1 to 65,535"
 const GREATEST: u64 = 65535;
 
-// Stored, with the length of the plain text.
-#[derive(Clone, Copy)]
-pub enum PutAnswer {
-    Stored { length: usize },
-    Refused { number: u8, place: usize },
-}
-
-#[derive(Clone, Copy)]
-pub enum RemoveAnswer {
-    Removed,
-    Refused { number: u8, place: usize },
-}
-
-// The number that stands at a position, 0 past the last.
-#[derive(Clone, Copy)]
-pub enum AtAnswer {
-    Standing { number: u64 },
-    Refused { number: u8, place: usize },
-}
-
-// "Order: 20, 21, ..": the refusal of an area that is no shelf, or of a number that is none; else 0.
-pub(crate) fn refusal(s: Survey, number: u64) -> u8
-    ensures { result ≡ refusal_of s number }
+// "Order: 20, 21, .."
+pub(crate) fn asked(survey: Option<Survey>, number: u64) -> Result<Survey, Refusal>
+    ensures { result ≡ asked survey number }
 {
-    if !s.shelf {
-        return 20;
+    let Some(s) = survey else {
+        return Err(Refusal(Reason::NoShelf, 0));
+    };
+    if number < 1 || GREATEST < number {
+        return Err(Refusal(Reason::NoNumber, 0));
     }
-    if number < 1 {
-        return 21;
-    }
-    if GREATEST < number {
-        return 21;
-    }
-    0
+    Ok(s)
 }

@@ -1,49 +1,44 @@
 // The plain text under a number, and its table.
 ghost use Rattle.std.specs.Prelude.{◌≡◌};
-ghost use Rattle.document.specs.Values.{answer_values, number};
+ghost use Rattle.document.specs.Values.{answer_values, refusal_values};
 ghost use Rattle.document.specs.Table.{empty_table};
 ghost use Rattle.shelf.specs.Answers.{Fetches, found};
 
-use crate::answers::refusal;
+use crate::answers::asked;
 use crate::plain_text::BOTH_USES;
 use crate::survey::go_over;
-use document::table::{Answer, LONGEST_PLAIN, Reading};
+use document::refusal::{Reason, Refusal};
+use document::table::{LONGEST_PLAIN, Reading};
 use shelf_bytes::HEAD;
 
-// Where the plain text under a number stands in the area; or the refusal, at place 0.
-#[derive(Clone, Copy)]
-pub enum Found {
-    At { from: usize, to: usize },
-    Refused { number: u8 },
+// From the first byte up to behind the last.
+#[derive(Clone, Copy, Debug, PartialEq, Eq)]
+pub struct Stretch {
+    pub from: usize,
+    pub to: usize,
 }
 
-pub fn find(area: &[u8], number: u64) -> Found
+// Where the plain text under a number stands in the area.
+pub fn find(area: &[u8], number: u64) -> Result<Stretch, Refusal>
     ensures { result ≡ found area.now number }
 {
     let mut scratch = [0u8; LONGEST_PLAIN];
-    let s = go_over(area, number, 0, &mut scratch);
-    let n = refusal(s, number);
-    if n != 0 {
-        return Found::Refused { number: n };
-    }
+    let s = asked(go_over(area, number, 0, &mut scratch), number)?;
     if s.size == 0 {
-        return Found::Refused { number: 23 };
+        return Err(Refusal(Reason::NumberMissing, 0));
     }
-    Found::At {
+    Ok(Stretch {
         from: s.from + HEAD,
         to: s.from + s.size,
-    }
+    })
 }
 
-fn refused(n: u8) -> Reading
-    ensures answer_value { answer_values result.answer ≡ number n 0 }
+fn refused(why: Refusal) -> Reading
+    ensures answer_value { answer_values result.answer ≡ refusal_values why }
     ensures table_value { result.table ≡ empty_table }
 {
     Reading {
-        answer: Answer::Refused {
-            number: n,
-            place: 0,
-        },
+        answer: Err(why),
         table: posology::empty_table(),
     }
 }
@@ -52,9 +47,8 @@ fn refused(n: u8) -> Reading
 pub fn fetch(area: &[u8], number: u64, strings: &mut [u8]) -> Reading
     ensures { Fetches number area.now strings.old result strings.new }
 {
-    let found = find(area, number);
-    match found {
-        Found::At { from, to } => posology::read(&area[from..to], BOTH_USES, strings),
-        Found::Refused { number: n } => refused(n),
+    match find(area, number) {
+        Ok(found) => posology::read(&area[found.from..found.to], BOTH_USES, strings),
+        Err(why) => refused(why),
     }
 }

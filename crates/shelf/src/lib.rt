@@ -9,8 +9,7 @@ mod standing;
 mod storing;
 mod survey;
 
-pub use answers::{AtAnswer, PutAnswer, RemoveAnswer};
-pub use fetching::{Found, fetch, find};
+pub use fetching::{Stretch, fetch, find};
 pub use plain_text::BOTH_USES;
 pub use removing::remove;
 pub use standing::at;

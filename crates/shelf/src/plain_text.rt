@@ -3,7 +3,7 @@ ghost use Rattle.std.specs.Prelude.{◌≡◌, ◌≤◌, length, take};
 ghost use Rattle.document.specs.Lookup.{same};
 ghost use Rattle.shelf_list.specs.Shelf.{is_plain};
 
-use document::table::{LONGEST_PLAIN, Writing};
+use document::table::LONGEST_PLAIN;
 
 // "read for use 3, which takes both uses"
 pub const BOTH_USES: u64 = 3;
@@ -23,9 +23,8 @@ pub(crate) fn is_plain(text: &[u8], scratch: &mut [u8; LONGEST_PLAIN]) -> bool
     if LONGEST_PLAIN < text.len() {
         return false;
     }
-    let w = rewriter::rewrite(text, BOTH_USES, scratch);
-    let Writing::Written { length: n } = w else {
-        return false;
-    };
-    agree(scratch, n, text)
+    match rewriter::rewrite(text, BOTH_USES, scratch) {
+        Ok(n) => agree(scratch, n, text),
+        Err(_) => false,
+    }
 }

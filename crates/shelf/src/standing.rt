@@ -3,22 +3,16 @@ ghost use Rattle.std.specs.Prelude.{◌≡◌};
 ghost use Rattle.shelf_list.specs.Calls.{at, on_area};
 ghost use Rattle.shelf.specs.Answers.{at_answer};
 
-use crate::answers::AtAnswer;
 use crate::survey::go_over;
+use document::refusal::{Reason, Refusal};
 use document::table::LONGEST_PLAIN;
 
-pub fn at(area: &[u8], position: u64) -> AtAnswer
+pub fn at(area: &[u8], position: u64) -> Result<u64, Refusal>
     ensures { at_answer result ≡ (on_area (at position) area.now).answer }
 {
     let mut scratch = [0u8; LONGEST_PLAIN];
-    let s = go_over(area, 0, position, &mut scratch);
-    if !s.shelf {
-        return AtAnswer::Refused {
-            number: 20,
-            place: 0,
-        };
-    }
-    AtAnswer::Standing {
-        number: s.standing as u64,
+    match go_over(area, 0, position, &mut scratch) {
+        Some(s) => Ok(s.standing as u64),
+        None => Err(Refusal(Reason::NoShelf, 0)),
     }
 }

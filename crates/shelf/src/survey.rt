@@ -1,7 +1,7 @@
 // Going over an area once: whether it is a shelf, and what the calls ask of it.
 ghost use Rattle.std.specs.Prelude.{◌≡◌, [], cond, ◌+◌, ◌≤◌};
 ghost use Rattle.shelf_list.specs.Shelf.{entries_in};
-ghost use Rattle.shelf.specs.Survey.{Passes, no_shelf, survey_of, surveyed, with_record};
+ghost use Rattle.shelf.specs.Survey.{Passes, survey_of, surveyed, with_record};
 
 use crate::plain_text::is_plain;
 use document::table::LONGEST_PLAIN;
@@ -13,7 +13,6 @@ const AREA: usize = 65535;
 // not there), and the number at the position asked for, 0 past the last.
 #[derive(Clone, Copy)]
 pub(crate) struct Survey {
-    pub shelf: bool,
     pub used: usize,
     pub count: usize,
     pub from: usize,
@@ -21,24 +20,10 @@ pub(crate) struct Survey {
     pub standing: usize,
 }
 
-fn no_shelf() -> Survey
-    ensures { result ≡ no_shelf }
-{
-    Survey {
-        shelf: false,
-        used: 0,
-        count: 0,
-        from: 0,
-        size: 0,
-        standing: 0,
-    }
-}
-
 fn empty() -> Survey
     ensures { result ≡ survey_of 0 0 [] }
 {
     Survey {
-        shelf: true,
         used: 0,
         count: 0,
         from: 0,
@@ -50,10 +35,7 @@ fn empty() -> Survey
 fn pick(first: bool, a: usize, b: usize) -> usize
     ensures { result ≡ cond first a b }
 {
-    if first {
-        return a;
-    }
-    b
+    if first { a } else { b }
 }
 
 // One record more, with its number and its bytes.
@@ -64,7 +46,6 @@ fn with_record(s: Survey, n: usize, size: usize, number: u64, position: u64) -> 
     let asked = n as u64 == number;
     let there = s.count as u64 == position;
     Survey {
-        shelf: s.shelf,
         used: s.used + size,
         count: s.count + 1,
         from: pick(asked, s.used, s.from),
@@ -73,37 +54,42 @@ fn with_record(s: Survey, n: usize, size: usize, number: u64, position: u64) -> 
     }
 }
 
-// The bytes of the record at a place, whose number has not stood before and is noted: 0 where there is none.
-fn record_at(area: &[u8], at: usize, set: &mut [u64], scratch: &mut [u8; LONGEST_PLAIN]) -> usize
+// The bytes of the record at a place, whose number has not stood before and is noted.
+fn record_at(
+    area: &[u8],
+    at: usize,
+    set: &mut [u64],
+    scratch: &mut [u8; LONGEST_PLAIN],
+) -> Option<usize>
     ensures { Passes set.old area.now at result set.new }
 {
     let n = head_at(area, at);
     if n == 0 {
-        return 0;
+        return None;
     }
     let number = number_at(area, at + 2);
     if !note(set, number as u64) {
-        return 0;
+        return None;
     }
     let from = at + HEAD;
     let to = at + n;
     if !is_plain(&area[from..to], scratch) {
-        return 0;
+        return None;
     }
-    n
+    Some(n)
 }
 
-// One pass: what stands behind the records is looked at where a record ends with a zero behind it.
+// One pass, none where the area is no shelf: what stands behind the records is looked at where a record ends with a zero behind it.
 pub(crate) fn go_over(
     area: &[u8],
     number: u64,
     position: u64,
     scratch: &mut [u8; LONGEST_PLAIN],
-) -> Survey
+) -> Option<Survey>
     ensures { result ≡ surveyed number position (entries_in area.now) }
 {
     if AREA < area.len() {
-        return no_shelf();
+        return None;
     }
     let mut set = [0u64; 1024];
     let mut s = empty();
@@ -111,17 +97,14 @@ pub(crate) fn go_over(
     while at < area.len() {
         if area[at] == 0 {
             if zeros_from(area, at) {
-                return s;
+                return Some(s);
             }
-            return no_shelf();
+            return None;
         }
-        let n = record_at(area, at, &mut set, scratch);
-        if n == 0 {
-            return no_shelf();
-        }
+        let n = record_at(area, at, &mut set, scratch)?;
         let stands = number_at(area, at + 2);
         s = with_record(s, stands, n, number, position);
         at += n;
     }
-    s
+    Some(s)
 }
