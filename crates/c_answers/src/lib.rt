@@ -24,7 +24,7 @@ fn tells(number: u64, place: usize) -> Told
     }
 }
 
-fn told_refusal(why: Refusal) -> Told
+pub fn told_refusal(why: Refusal) -> Told
     ensures { result ≡ told_refusal why }
 {
     let Refusal(reason, place) = why;

@@ -10,10 +10,9 @@ use document::table::{Date, Head, Text, WORDS};
 
 const HEAD: usize = 26;
 
-// The head's part of an area: whether these numbers are those of the head and the counts that they are read as.
+// The head's part of an area.
 #[derive(Clone, Copy)]
 pub struct HeadPart {
-    pub laid: bool,
     pub head: Head,
     pub count: usize,
     pub text: usize,
@@ -23,10 +22,8 @@ fn head_numbers(area: &[u8]) -> [u64; HEAD]
     ensures { result ≡ take 26 (numbers_in area.now) }
 {
     let mut numbers = [0u64; HEAD];
-    let mut i = 0;
-    while i < HEAD {
+    for i in 0..HEAD {
         numbers[i] = c_numbers::number_at(area, i * 8);
-        i += 1;
     }
     numbers
 }
@@ -49,10 +46,8 @@ pub fn words_in(area: &[u8]) -> [u64; WORDS]
         return whole_words(area);
     }
     let mut words = [0u64; WORDS];
-    let mut i = 0;
-    while i < WORDS {
+    for i in 0..WORDS {
         words[i] = c_numbers::number_at(area, 208 + i * 8);
-        i += 1;
     }
     words
 }
@@ -67,15 +62,11 @@ fn date_at(n: &[u64; HEAD], at: usize) -> Date
     let day = (n[at + 3] % 256) as u8;
     match form {
         0 => Date::Absent,
-        1 => Date::Bare {
-            year: year,
-            month: month,
-            day: day,
-        },
+        1 => Date::Bare { year, month, day },
         _ => Date::Moment {
-            year: year,
-            month: month,
-            day: day,
+            year,
+            month,
+            day,
             second: (n[at + 4] % 0x100000000) as u32,
             west: n[at + 5] == 1,
             zone: (n[at + 6] % 0x10000) as u16,
@@ -108,32 +99,20 @@ fn head_in(n: &[u64; HEAD]) -> Head
     }
 }
 
-fn same_numbers(a: &[u64; HEAD], b: &[u64; HEAD]) -> bool
-    requires { (length a.now ≡ 26) × (length b.now ≡ 26) }
-    ensures { result ≡ same a.now b.now }
-{
-    let mut i = 0;
-    while i < HEAD {
-        if a[i] != b[i] {
-            return false;
-        }
-        i += 1;
-    }
-    true
-}
-
-pub fn head_part(area: &[u8]) -> HeadPart
+// None where its numbers are not those of the head and the counts that they are read as.
+pub fn head_part(area: &[u8]) -> Option<HeadPart>
     ensures { HeadIs area.now result }
 {
     let n = head_numbers(area);
     let h = head_in(&n);
     let count = n[24] as usize;
     let text = n[25] as usize;
-    let back = c_area::head_numbers(h, count, text);
-    HeadPart {
-        laid: same_numbers(&back, &n),
-        head: h,
-        count: count,
-        text: text,
+    if c_area::head_numbers(h, count, text) != n {
+        return None;
     }
+    Some(HeadPart {
+        head: h,
+        count,
+        text,
+    })
 }

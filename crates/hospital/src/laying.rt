@@ -1,11 +1,13 @@
 // What was read, laid into the lent area without a table between them.
 ghost use Rattle.std.specs.Prelude.{◌≡◌, cond, eqb, length};
-ghost use Rattle.document.specs.Values.{next_values};
+ghost use Rattle.posology.specs.Next.{next_words_values, next_words_table};
+ghost use Rattle.hospital.specs.Calls.{laid_next};
 ghost use Rattle.c_area.specs.Area.{area_of, area_bytes};
 ghost use Rattle.read_table.specs.Built.{built};
-ghost use Rattle.hospital.specs.Calls.{laid_next};
 
-use document::table::{NextAnswer, WORDS};
+use document::refusal::Refusal;
+use document::table::WORDS;
+use posology::NextWords;
 use read_records::read::HeadRead;
 
 pub(crate) fn lay_read(h: HeadRead, rows: &mut [u64; WORDS], table: &mut [u8])
@@ -23,15 +25,12 @@ pub(crate) fn lay_read(h: HeadRead, rows: &mut [u64; WORDS], table: &mut [u8])
 }
 
 // Only a posology that was taken is laid.
-pub(crate) fn lay_next(answer: NextAnswer, h: HeadRead, rows: &mut [u64; WORDS], table: &mut [u8])
-    ensures { table.new ≡ laid_next (next_values answer) (cond (eqb (length table.old) area_bytes) (area_of (built h rows.old)) table.old) table.old }
+pub(crate) fn lay_next(r: Result<NextWords, Refusal>, rows: &mut [u64; WORDS], table: &mut [u8])
+    ensures { table.new ≡ laid_next (next_words_values r) (cond (eqb (length table.old) area_bytes) (area_of (next_words_table r rows.old)) table.old) table.old }
 {
-    match answer {
-        NextAnswer::Taken { end: _ } => lay_read(h, rows, table),
-        NextAnswer::Blank { length: _ } => {}
-        NextAnswer::Refused {
-            number: _,
-            place: _,
-        } => {}
+    match r {
+        Ok(NextWords::Taken { end: _, head }) => lay_read(head, rows, table),
+        Ok(NextWords::Blank { length: _ }) => {}
+        Err(_) => {}
     }
 }

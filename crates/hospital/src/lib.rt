@@ -6,6 +6,7 @@ mod measuring;
 mod reading;
 mod running;
 mod shelving;
+mod telling;
 mod writing;
 
 pub use measuring::posology_length;

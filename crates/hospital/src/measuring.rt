@@ -21,10 +21,8 @@ pub extern "C" fn posology_length(
 {
     let mut nowhere = [0u8; 1];
     let number = posology_write(table, strings, purpose, &mut nowhere, place);
-    if table.len() == c_area::AREA {
-        if number == 19 {
-            return 0;
-        }
+    if table.len() == c_area::AREA && number == 19 {
+        return 0;
     }
     number
 }

@@ -2,6 +2,8 @@
 ghost use Rattle.hospital.specs.Calls.{ReadsInto};
 
 use crate::laying;
+use crate::telling::{refuse, tell};
+use document::refusal::Reason;
 use document::table::WORDS;
 
 #[unsafe(no_mangle)]
@@ -15,16 +17,15 @@ pub extern "C" fn posology_read(
     ensures { ReadsInto purpose text.now strings.old table.old result place.new strings.new table.new }
 {
     if table.len() != c_area::AREA {
-        *place = c_area::AREA as u64;
-        return 19;
+        return refuse(Reason::BufferTooShort, c_area::AREA, place);
     }
     let mut rows = [0u64; WORDS];
-    let h = posology::read_words(text, purpose, strings, &mut rows);
-    if h.refused {
-        *place = h.place as u64;
-        return h.number as u64;
+    match posology::read_words(text, purpose, strings, &mut rows) {
+        Ok(h) => {
+            laying::lay_read(h, &mut rows, table);
+            *place = text.len() as u64;
+            0
+        }
+        Err(why) => tell(c_answers::told_refusal(why), place),
     }
-    laying::lay_read(h, &mut rows, table);
-    *place = text.len() as u64;
-    0
 }

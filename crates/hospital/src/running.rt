@@ -2,6 +2,8 @@
 ghost use Rattle.hospital.specs.Calls.{ReadsNextInto};
 
 use crate::laying;
+use crate::telling::{refuse, tell};
+use document::refusal::Reason;
 use document::table::WORDS;
 
 #[unsafe(no_mangle)]
@@ -15,14 +17,10 @@ pub extern "C" fn posology_next(
     ensures { ReadsNextInto purpose run.now strings.old table.old result place.new strings.new table.new }
 {
     if table.len() != c_area::AREA {
-        *place = c_area::AREA as u64;
-        return 19;
+        return refuse(Reason::BufferTooShort, c_area::AREA, place);
     }
     let mut rows = [0u64; WORDS];
-    let w = posology::next_words(run, purpose, strings, &mut rows);
-    let answer = w.answer;
-    laying::lay_next(answer, w.head, &mut rows, table);
-    let told = c_answers::told_next(answer);
-    *place = told.place;
-    told.number
+    let r = posology::next_words(run, purpose, strings, &mut rows);
+    laying::lay_next(r, &mut rows, table);
+    tell(c_answers::told_next(posology::answer_of(r)), place)
 }

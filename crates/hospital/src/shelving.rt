@@ -2,7 +2,9 @@
 ghost use Rattle.hospital.specs.ShelfCalls.{PutsInto, FetchesInto, RemovesFrom, StandsAt};
 
 use crate::reading::posology_read;
-use shelf::{AtAnswer, BOTH_USES, Found, PutAnswer, RemoveAnswer};
+use crate::telling::{refuse, tell};
+use document::refusal::Reason;
+use shelf::BOTH_USES;
 
 #[unsafe(no_mangle)]
 pub extern "C" fn posology_shelf_put(
@@ -14,20 +16,7 @@ pub extern "C" fn posology_shelf_put(
 ) -> u64
     ensures { PutsInto number purpose text.now area.old result place.new area.new }
 {
-    let answer = shelf::put(area, number, text, purpose);
-    match answer {
-        PutAnswer::Stored { length } => {
-            *place = length as u64;
-            0
-        }
-        PutAnswer::Refused {
-            number: n,
-            place: p,
-        } => {
-            *place = p as u64;
-            n as u64
-        }
-    }
+    tell(c_answers::told_writing(shelf::put(area, number, text, purpose)), place)
 }
 
 // The plain text under a number, read where it stands.
@@ -43,16 +32,14 @@ pub extern "C" fn posology_shelf_fetch(
         place.new strings.new table.new }
 {
     if table.len() != c_area::AREA {
-        *place = c_area::AREA as u64;
-        return 19;
+        return refuse(Reason::BufferTooShort, c_area::AREA, place);
     }
-    let found = shelf::find(area, number);
-    match found {
-        Found::At { from, to } => posology_read(&area[from..to], BOTH_USES, strings, table, place),
-        Found::Refused { number: n } => {
-            *place = 0;
-            n as u64
+    match shelf::find(area, number) {
+        Ok(found) => {
+            let text = &area[found.from..found.to];
+            posology_read(text, BOTH_USES, strings, table, place)
         }
+        Err(why) => tell(c_answers::told_refusal(why), place),
     }
 }
 
@@ -60,13 +47,9 @@ pub extern "C" fn posology_shelf_fetch(
 pub extern "C" fn posology_shelf_remove(area: &mut [u8], number: u64) -> u64
     ensures { RemovesFrom number area.old result area.new }
 {
-    let answer = shelf::remove(area, number);
-    match answer {
-        RemoveAnswer::Removed => 0,
-        RemoveAnswer::Refused {
-            number: n,
-            place: _,
-        } => n as u64,
+    match shelf::remove(area, number) {
+        Ok(()) => 0,
+        Err(why) => why.0.number() as u64,
     }
 }
 
@@ -74,18 +57,14 @@ pub extern "C" fn posology_shelf_remove(area: &mut [u8], number: u64) -> u64
 pub extern "C" fn posology_shelf_at(area: &[u8], position: u64, number: &mut u64) -> u64
     ensures { StandsAt position area.now result number.new }
 {
-    let answer = shelf::at(area, position);
-    match answer {
-        AtAnswer::Standing { number: n } => {
-            *number = n;
+    match shelf::at(area, position) {
+        Ok(standing) => {
+            *number = standing;
             0
         }
-        AtAnswer::Refused {
-            number: n,
-            place: _,
-        } => {
+        Err(why) => {
             *number = 0;
-            n as u64
+            why.0.number() as u64
         }
     }
 }

@@ -1,6 +1,8 @@
 // The table of the lent area as its plain text.
 ghost use Rattle.hospital.specs.Calls.{WritesFrom};
 
+use crate::telling::{refuse, tell};
+use document::refusal::Reason;
 use document::uses::is_use;
 
 #[unsafe(no_mangle)]
@@ -14,22 +16,17 @@ pub extern "C" fn posology_write(
     ensures { WritesFrom purpose table.now strings.now out.old result place.new out.new }
 {
     if table.len() != c_area::AREA {
-        *place = c_area::AREA as u64;
-        return 19;
+        return refuse(Reason::BufferTooShort, c_area::AREA, place);
     }
-    *place = 0;
     if !is_use(purpose) {
-        return 17;
+        return refuse(Reason::WrongUse, 0, place);
     }
-    let part = c_area_back::head_part(table);
-    if !part.laid {
-        return 18;
-    }
+    let Some(part) = c_area_back::head_part(table) else {
+        return refuse(Reason::NotReadable, 0, place);
+    };
     let words = c_area_back::words_in(table);
     let w = writer::write_words(
         part.head, part.count, part.text, &words, strings, purpose, out,
     );
-    let told = c_answers::told_writing(w);
-    *place = told.place;
-    told.number
+    tell(c_answers::told_writing(w), place)
 }

@@ -4,5 +4,5 @@
 mod next;
 mod reader;
 
-pub use next::{next_words, read_next};
+pub use next::{NextWords, answer_of, next_words, read_next};
 pub use reader::{empty_table, read, read_words};

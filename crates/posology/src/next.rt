@@ -7,7 +7,7 @@ ghost use Rattle.document.specs.Values.{next_values};
 
 use crate::reader;
 use document::refusal::Refusal;
-use document::table::{Next, NextReading, WORDS};
+use document::table::{Next, NextReading, Table, WORDS};
 use read_records::read::HeadRead;
 
 // What a run begins with: a posology, with the place behind its last byte and its head; or only blanks remain.
@@ -47,23 +47,23 @@ pub fn next_words(
     }
 }
 
-fn reading_of(r: Result<NextWords, Refusal>, words: &[u64; WORDS]) -> NextReading
-    ensures answer_value { next_values result.answer ≡ next_words_values r }
-    ensures table_value { result.table ≡ next_words_table r words.now }
+pub fn answer_of(r: Result<NextWords, Refusal>) -> Result<Next, Refusal>
+    ensures { next_values result ≡ next_words_values r }
 {
     match r {
-        Ok(NextWords::Taken { end, head }) => NextReading {
-            answer: Ok(Next::Taken { end }),
-            table: read_table::table_of(head, words),
-        },
-        Ok(NextWords::Blank { length }) => NextReading {
-            answer: Ok(Next::Blank { length }),
-            table: reader::empty_table(),
-        },
-        Err(why) => NextReading {
-            answer: Err(why),
-            table: reader::empty_table(),
-        },
+        Ok(NextWords::Taken { end, head: _ }) => Ok(Next::Taken { end }),
+        Ok(NextWords::Blank { length }) => Ok(Next::Blank { length }),
+        Err(why) => Err(why),
+    }
+}
+
+fn table_of(r: Result<NextWords, Refusal>, words: &[u64; WORDS]) -> Table
+    ensures { result ≡ next_words_table r words.now }
+{
+    match r {
+        Ok(NextWords::Taken { end: _, head }) => read_table::table_of(head, words),
+        Ok(NextWords::Blank { length: _ }) => reader::empty_table(),
+        Err(_) => reader::empty_table(),
     }
 }
 
@@ -72,5 +72,8 @@ pub fn read_next(run: &[u8], purpose: u64, strings: &mut [u8]) -> NextReading
 {
     let mut words = [0u64; WORDS];
     let r = next_words(run, purpose, strings, &mut words);
-    reading_of(r, &words)
+    NextReading {
+        answer: answer_of(r),
+        table: table_of(r, &words),
+    }
 }
