@@ -5,21 +5,16 @@ ghost use Rattle.json_grammar.specs.Walk.{one_object};
 ghost use Rattle.json_walk.specs.Turn.{Tells};
 
 use json_scan::byte;
-use json_walk::End;
+use json_walk::Fault;
 
-// The one object that all of the text is, blanks aside.
-pub fn one_object(text: &[u8]) -> End
+// The one object that all of the text is, blanks aside: the place behind it.
+pub fn one_object(text: &[u8]) -> Result<usize, Fault>
     ensures { Tells text.now (one_object text.now) result }
 {
-    match json_walk::first_object(text) {
-        End::At(e) => {
-            let p = byte::blanks_end(text, e);
-            if p < text.len() {
-                return End::Bad(p);
-            }
-            End::At(e)
-        }
-        End::Bad(p) => End::Bad(p),
-        End::Deep(p) => End::Deep(p),
+    let end = json_walk::first_object(text)?;
+    let behind = byte::blanks_end(text, end);
+    if behind < text.len() {
+        return Err(Fault::Broken(behind));
     }
+    Ok(end)
 }

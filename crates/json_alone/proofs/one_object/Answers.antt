@@ -1,31 +1,36 @@
 -- Behind the first object stand only blanks.
 use Prim.Native.Nat.{ℕ}
+use mathlib.Core.Path.{◌≡◌}
+use mathlib.Core.List.{List}
 use native.Mathlib.Omega.{arith}
 use lib.ListN.{drop_of_length-le}
 use lib.Seq.{drop-cons}
-use Rattle.json_grammar.specs.Walk.{one_object}
+use Rattle.std.specs.Prelude.{Result, Ok, Err, IsErrAnd}
+use Rattle.json_grammar.specs.Walk.{first_object, one_object}
+use Rattle.json_walk.specs.Turn.{Refused, Tells}
+use Rattle.json_walk.specs.declared.Fault.{Fault}
+use Rattle.json_walk.specs.declared.Fault.TheVariants.{Broken, Deep}
 use Rattle.json_alone.proofs.one_object.Goals as goal
 
-pub returns-then-p-text : goal.returns-then-p-text
+-- a refusal is handed on
+refuses : (text : List ℕ) (g : Fault) (r : Result ℕ Fault) → Refused text (first_object text) g → IsErrAnd r (λ fault. fault ≡ g) → Tells text (one_object text) r
 unfolding one_object
-returns-then-p-text c =
-    let t = rw c.in-At.is at c.first_object.ensures in
-    (rw (t.0, ← c.blanks_end-p.ensures.lands, drop-cons {A = ℕ} _ _ 0 c.if-p-text.true), omega arith)
+refuses text (Broken p) (Err fault) h e = rw e (rw h.0, h.1)
+refuses text (Deep p) (Err fault) h e = rw e (rw h.0, h.1)
+refuses text g (Ok x) h e = absurd e
 
-pub returns-else-p-text : goal.returns-else-p-text
-unfolding one_object
-returns-else-p-text c =
-    let t = rw c.in-At.is at c.first_object.ensures in
-    (rw (t.0, ← c.blanks_end-p.ensures.lands, drop_of_length-le _ c.if-p-text.false), t.1)
+pub returns-in_err-end : goal.returns-in_err-end
+returns-in_err-end c =
+    refuses _ _ c.from_residual.result c.in_err-end.ensures c.from_residual.ensures.1
 
-pub returns-in-Bad : goal.returns-in-Bad
+pub returns-then-behind-text : goal.returns-then-behind-text
 unfolding one_object
-returns-in-Bad c =
-    let t = rw c.in-Bad.is at c.first_object.ensures in
-    (rw t.0, t.1)
+returns-then-behind-text c =
+    let t = c.in_ok-end.ensures in
+    (rw (t.0, ← c.blanks_end-behind.ensures.lands, drop-cons {A = ℕ} _ _ 0 c.if-behind-text.true), omega arith)
 
-pub returns-in-Deep : goal.returns-in-Deep
+pub returns : goal.returns
 unfolding one_object
-returns-in-Deep c =
-    let t = rw c.in-Deep.is at c.first_object.ensures in
-    (rw t.0, t.1)
+returns c =
+    let t = c.in_ok-end.ensures in
+    (rw (t.0, ← c.blanks_end-behind.ensures.lands, drop_of_length-le _ c.if-behind-text.false), t.1)
