@@ -1,8 +1,8 @@
 -- What reading makes of a text, and of a run, once this much is settled.
 use Prim.Native.Nat.{ℕ}
-use mathlib.Core.Path.{◌≡◌, refl, sym, ap}
+use mathlib.Core.Path.{◌≡◌, refl}
 use mathlib.Core.List.{List, [], ◌∷◌}
-use mathlib.Core.Bool.{Bool, true, false, cond, false≢true, ◌||◌}
+use mathlib.Core.Bool.{Bool, true, false, cond, ◌||◌}
 use lib.Dec.{leb, ltb}
 use lib.ListN.{length}
 use Rattle.json_grammar.specs.Byte.{blanked}

@@ -32,10 +32,11 @@ pub fn one_text(text: &[u8], purpose: u64) -> Result<(), Refusal>
 }
 
 // The first 32,768 bytes of a run, in which a text must end.
+#[tactic(auto, using(std::proofs::lemmas::List::take_min))]
 fn begun(run: &[u8]) -> &[u8]
     ensures { result.now ≡ take text_at_most run.now }
 {
-    &run[..run.len().min(LONGEST)]
+    &run[..LONGEST.min(run.len())]
 }
 
 // No text ends in the first 32,768 bytes, and they are walked up to p.
