@@ -6,21 +6,24 @@ pub mod console;
 ghost use Rattle.std.specs.Prelude.{◌≡◌, List, [], ◌++◌, ℕ, ◌<◌, length};
 ghost use Rattle.document.specs.Posology.{Posology};
 ghost use Rattle.document.specs.Valid.{Valid, Fits, strings as strings_of};
+ghost use Rattle.document.specs.Refusals.{number_of};
 ghost use Rattle.document.specs.Table.{table_of};
 ghost use Rattle.document.specs.Plain.{plain};
 ghost use Rattle.document.specs.Write.{fitting, greatest_room};
 ghost use Rattle.write_bytes.specs.Puts.{Puts};
 ghost use Rattle.checker_lines.specs.Lines.{for_plan, refusal_line, written_line, line as line_in};
 
-use document::table::{Answer, TEXT_ROOM, Table, Writing};
+use document::refusal::Refusal;
+use document::table::{TEXT_ROOM, Table};
 
 const PLAN: u64 = 1;
 
-fn put_refusal(out: &mut [u8], number: u8, place: usize) -> usize
-    ensures { number < 1000000 → place < 1000000 → Puts out.old 0 (refusal_line number place) [] result out.new }
+fn put_refusal(out: &mut [u8], why: Refusal) -> usize
+    ensures { why.1 < 1000000 → Puts out.old 0 (refusal_line (number_of why.0) why.1) [] result out.new }
 {
+    let Refusal(reason, place) = why;
     let at = write_bytes::put_all(out, 0, b"refused ");
-    let at = write_numbers::put_whole(out, at, number as u64);
+    let at = write_numbers::put_whole(out, at, u64::from(reason.number()));
     let at = write_bytes::put(out, at, b' ');
     let at = write_numbers::put_whole(out, at, place as u64);
     write_bytes::put(out, at, b'\n')
@@ -30,8 +33,8 @@ fn put_plain(out: &mut [u8], t: Table, strings: &[u8]) -> usize
     ensures { (p : Posology) (behind : List ℕ) → Valid for_plan p → Fits greatest_room p → t ≡ table_of p → strings.now ≡ strings_of p ++ behind → Puts out.old 0 (written_line (fitting (length out.old) (plain p))) [] result out.new }
 {
     match writer::write(t, strings, PLAN, out) {
-        Writing::Written { length } => write_bytes::put(out, length, b'\n'),
-        Writing::Refused { number, place } => put_refusal(out, number, place),
+        Ok(length) => write_bytes::put(out, length, b'\n'),
+        Err(why) => put_refusal(out, why),
     }
 }
 
@@ -41,10 +44,8 @@ pub fn line(input: &[u8], out: &mut [u8]) -> usize
 {
     let mut strings = [0u8; TEXT_ROOM];
     let r = posology::read(input, PLAN, &mut strings);
-    let t = r.table;
-    let a = r.answer;
-    match a {
-        Answer::Taken => put_plain(out, t, &strings),
-        Answer::Refused { number, place } => put_refusal(out, number, place),
+    match r.answer {
+        Ok(()) => put_plain(out, r.table, &strings),
+        Err(why) => put_refusal(out, why),
     }
 }

@@ -5,7 +5,7 @@
 mod named;
 mod runs;
 
-use document::table::{TEXT_ROOM, Table, Writing};
+use document::table::{TEXT_ROOM, Table};
 use std::io;
 use std::num::wrapping_add_usize;
 
@@ -29,13 +29,9 @@ fn put(t: Table, purpose: u64, strings: &[u8], out: &mut [u8], from: usize) -> u
     if out.len() < from {
         return from;
     }
-    let w = writer::write(t, strings, purpose, &mut out[from..]);
-    match w {
-        Writing::Written { length } => wrapping_add_usize(from, length),
-        Writing::Refused {
-            number: _,
-            place: _,
-        } => from,
+    match writer::write(t, strings, purpose, &mut out[from..]) {
+        Ok(length) => wrapping_add_usize(from, length),
+        Err(_) => from,
     }
 }
 

@@ -1,8 +1,7 @@
 // Posologies by name, a line each: the use's digit, a name, and the text. Prints each one's plain text, or its refusal.
 ghost use Rattle.std.specs.Prelude.{◌≤◌, length};
 
-use crate::{part, put, say};
-use document::table::Answer;
+use crate::{part, put};
 use std::io;
 
 fn answer(
@@ -13,17 +12,12 @@ fn answer(
     out: &mut [u8],
 ) -> io::Result<()> {
     let r = posology::read(text, purpose, strings);
-    let t = r.table;
-    let a = r.answer;
-    match a {
-        Answer::Taken => {
-            let end = put(t, purpose, strings, out, 0);
+    match r.answer {
+        Ok(()) => {
+            let end = put(r.table, purpose, strings, out, 0);
             rt.write_all(part(out, 0, end))
         }
-        Answer::Refused { number, place } => {
-            say(rt, b"refused ", number as u64)?;
-            say(rt, b" ", place as u64)
-        }
+        Err(why) => print!(rt; "{why}"),
     }
 }
 

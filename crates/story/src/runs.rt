@@ -1,7 +1,7 @@
 // 128 posologies in a run: 64, and the same once more with members in another order and blanks between them.
 // The first are written one behind the other and read back; then the others must come to the same bytes.
 use crate::{part, put, say};
-use document::table::NextAnswer;
+use document::table::Next;
 use std::io;
 use std::num::wrapping_add_usize;
 
@@ -20,13 +20,11 @@ struct Going {
 // The next text of the run, written behind the others; the same state where there is none.
 fn one_more(g: Going, run: &[u8], strings: &mut [u8], out: &mut [u8]) -> Going {
     let r = posology::read_next(part(run, g.at, run.len()), PLAN, strings);
-    let t = r.table;
-    let a = r.answer;
-    match a {
-        NextAnswer::Taken { end } => Going {
+    match r.answer {
+        Ok(Next::Taken { end }) => Going {
             count: wrapping_add_usize(g.count, 1),
             at: wrapping_add_usize(g.at, end),
-            length: put(t, PLAN, strings, out, g.length),
+            length: put(r.table, PLAN, strings, out, g.length),
         },
         _ => g,
     }

@@ -4,8 +4,8 @@
 // what is read, and its bound. A line `walk` or `walkrun` is of the walk alone: `2 PLACE`, `3 PLACE` or `taken`.
 #![tactic(auto)]
 
-use document::table::{Answer, Measuring, NextAnswer, TEXT_ROOM, Table, Writing};
-use json_walk::End;
+use document::table::{Next, TEXT_ROOM, Table};
+use json_walk::Fault;
 use std::io;
 use vectors_cases::Case;
 
@@ -30,22 +30,16 @@ fn comes_back(plain: &[u8], purpose: u64) -> bool {
     let mut strings = [0u8; TEXT_ROOM];
     let mut again = [0u8; BUFFER];
     let r = posology::read(plain, purpose, &mut strings);
-    let t = r.table;
-    let w = writer::write(t, &strings, purpose, &mut again);
-    match w {
-        Writing::Written { length } => check::same(plain, vectors_cases::first(&again, length)),
-        Writing::Refused {
-            number: _,
-            place: _,
-        } => false,
+    match writer::write(r.table, &strings, purpose, &mut again) {
+        Ok(length) => plain == vectors_cases::first(&again, length),
+        Err(_) => false,
     }
 }
 
 fn say_plain(rt: &impl Print, t: Table, purpose: u64, strings: &[u8]) -> io::Result<()> {
     let mut out = [0u8; BUFFER];
-    let w = writer::write(t, strings, purpose, &mut out);
-    match w {
-        Writing::Written { length } => {
+    match writer::write(t, strings, purpose, &mut out) {
+        Ok(length) => {
             let plain = vectors_cases::first(&out, length);
             rt.write_all(b" ")?;
             vectors_cases::say_hex(rt, plain)?;
@@ -54,11 +48,7 @@ fn say_plain(rt: &impl Print, t: Table, purpose: u64, strings: &[u8]) -> io::Res
             }
             Ok(())
         }
-        Writing::Refused { number, place: _ } => vectors_cases::say(
-            rt,
-            b" unwritten ",
-            number as u64,
-        ),
+        Err(why) => print!(rt; " unwritten {}", why.0.number()),
     }
 }
 
@@ -72,63 +62,49 @@ fn say_taken(rt: &impl Print, t: Table, purpose: u64, strings: &[u8]) -> io::Res
 
 fn answer_text(rt: &impl Print, text: &[u8], purpose: u64, strings: &mut [u8]) -> io::Result<()> {
     let r = posology::read(text, purpose, strings);
-    let t = r.table;
-    let a = r.answer;
-    match a {
-        Answer::Taken => {
+    match r.answer {
+        Ok(()) => {
             rt.write_all(b"ok")?;
-            say_taken(rt, t, purpose, strings)
+            say_taken(rt, r.table, purpose, strings)
         }
-        Answer::Refused { number, place } => vectors_cases::say_refused(rt, number, place),
+        Err(why) => println!(rt; "{why}"),
     }
 }
 
 fn answer_run(rt: &impl Print, run: &[u8], purpose: u64, strings: &mut [u8]) -> io::Result<()> {
     let r = posology::read_next(run, purpose, strings);
-    let t = r.table;
-    let a = r.answer;
-    match a {
-        NextAnswer::Taken { end } => {
+    match r.answer {
+        Ok(Next::Taken { end }) => {
             vectors_cases::say(rt, b"ok ", end as u64)?;
-            say_taken(rt, t, purpose, strings)
+            say_taken(rt, r.table, purpose, strings)
         }
-        NextAnswer::Blank { length } => {
-            vectors_cases::say(rt, b"blank ", length as u64)?;
-            vectors_cases::end_line(rt)
-        }
-        NextAnswer::Refused { number, place } => vectors_cases::say_refused(rt, number, place),
+        Ok(Next::Blank { length }) => println!(rt; "blank {length}"),
+        Err(why) => println!(rt; "{why}"),
     }
 }
 
 fn say_length(rt: &impl Print, t: Table, purpose: u64, strings: &[u8]) -> io::Result<()> {
-    let m = writer::length(t, strings, purpose);
-    match m {
-        Measuring::Measured { length } => {
-            vectors_cases::say(rt, b"ok ", length as u64)?;
-            vectors_cases::say(rt, b" ", writer::longest(t.count, t.text) as u64)?;
-            vectors_cases::end_line(rt)
-        }
-        Measuring::Refused { number, place } => vectors_cases::say_refused(rt, number, place),
+    let bound = writer::longest(t.count, t.text);
+    match writer::length(t, strings, purpose) {
+        Ok(length) => println!(rt; "ok {length} {bound}"),
+        Err(why) => println!(rt; "{why}"),
     }
 }
 
 fn answer_length(rt: &impl Print, text: &[u8], purpose: u64, strings: &mut [u8]) -> io::Result<()> {
     let r = posology::read(text, purpose, strings);
-    let t = r.table;
-    let a = r.answer;
-    match a {
-        Answer::Taken => say_length(rt, t, purpose, strings),
-        Answer::Refused { number, place } => vectors_cases::say_refused(rt, number, place),
+    match r.answer {
+        Ok(()) => say_length(rt, r.table, purpose, strings),
+        Err(why) => println!(rt; "{why}"),
     }
 }
 
-fn say_walked(rt: &impl Print, end: End) -> io::Result<()> {
+fn say_walked(rt: &impl Print, end: Result<usize, Fault>) -> io::Result<()> {
     match end {
-        End::At(_) => rt.write_all(b"taken")?,
-        End::Bad(p) => vectors_cases::say(rt, b"2 ", p as u64)?,
-        End::Deep(p) => vectors_cases::say(rt, b"3 ", p as u64)?,
+        Ok(_) => println!(rt; "taken"),
+        Err(Fault::Broken(p)) => println!(rt; "2 {p}"),
+        Err(Fault::Deep(p)) => println!(rt; "3 {p}"),
     }
-    vectors_cases::end_line(rt)
 }
 
 fn answer(rt: &impl Print, c: Case, text: &[u8], strings: &mut [u8]) -> io::Result<()> {

@@ -104,12 +104,6 @@ pub fn end_line(rt: &impl Print) -> io::Result<()> {
     rt.write_all(b"\n")
 }
 
-pub fn say_refused(rt: &impl Print, number: u8, place: usize) -> io::Result<()> {
-    say(rt, b"refused ", number as u64)?;
-    say(rt, b" ", place as u64)?;
-    end_line(rt)
-}
-
 // So many bytes, or all where there are fewer.
 pub fn first(bytes: &[u8], n: usize) -> &[u8] {
     if bytes.len() < n {

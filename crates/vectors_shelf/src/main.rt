@@ -2,8 +2,7 @@
 // `put NUMBER USE HEX`, `fetch NUMBER ROOM`, `remove NUMBER`, `at POSITION`, and `show`, which prints the area without its closing zeros.
 #![tactic(auto)]
 
-use document::table::{Answer, Table, Writing};
-use shelf::{AtAnswer, PutAnswer, RemoveAnswer};
+use document::table::Table;
 use std::io;
 use vectors_cases::Case;
 
@@ -40,10 +39,8 @@ fn ok(rt: &impl Print) -> io::Result<()> {
 
 // Fills the area with the bytes and zeros behind them.
 fn lay(area: &mut [u8], bytes: &[u8]) {
-    let mut i = 0;
-    while i < area.len() {
-        area[i] = if i < bytes.len() { bytes[i] } else { 0 };
-        i += 1;
+    for (i, b) in area.iter_mut().enumerate() {
+        *b = if i < bytes.len() { bytes[i] } else { 0 };
     }
 }
 
@@ -54,35 +51,25 @@ fn answer_put(
     purpose: u64,
     text: &[u8],
 ) -> io::Result<()> {
-    let r = shelf::put(area, number, text, purpose);
-    match r {
-        PutAnswer::Stored { length: _ } => ok(rt),
-        PutAnswer::Refused { number: n, place } => vectors_cases::say_refused(rt, n, place),
+    match shelf::put(area, number, text, purpose) {
+        Ok(_) => ok(rt),
+        Err(why) => println!(rt; "{why}"),
     }
 }
 
 fn say_plain(rt: &impl Print, t: Table, strings: &[u8]) -> io::Result<()> {
     let mut out = [0u8; BUFFER];
-    let w = writer::write(t, strings, 3, &mut out);
-    match w {
-        Writing::Written { length } => vectors_cases::say_hex(
-            rt,
-            vectors_cases::first(&out, length),
-        ),
-        Writing::Refused { number, place: _ } => vectors_cases::say(
-            rt,
-            b"unwritten ",
-            number as u64,
-        ),
+    match writer::write(t, strings, 3, &mut out) {
+        Ok(length) => vectors_cases::say_hex(rt, vectors_cases::first(&out, length)),
+        Err(why) => print!(rt; "unwritten {}", why.0.number()),
     }
 }
 
 fn answer_fetch(rt: &impl Print, area: &[u8], number: u64, strings: &mut [u8]) -> io::Result<()> {
     let r = shelf::fetch(area, number, strings);
     let t = r.table;
-    let a = r.answer;
-    match a {
-        Answer::Taken => {
+    match r.answer {
+        Ok(()) => {
             vectors_cases::say(rt, b"ok ", t.count as u64)?;
             rt.write_all(b" ")?;
             say_plain(rt, t, strings)?;
@@ -90,7 +77,7 @@ fn answer_fetch(rt: &impl Print, area: &[u8], number: u64, strings: &mut [u8]) -
             vectors_cases::say_hex(rt, vectors_cases::first(strings, t.text))?;
             vectors_cases::end_line(rt)
         }
-        Answer::Refused { number: n, place } => vectors_cases::say_refused(rt, n, place),
+        Err(why) => println!(rt; "{why}"),
     }
 }
 
@@ -108,21 +95,16 @@ fn fetch_within(
 }
 
 fn answer_remove(rt: &impl Print, area: &mut [u8], number: u64) -> io::Result<()> {
-    let r = shelf::remove(area, number);
-    match r {
-        RemoveAnswer::Removed => ok(rt),
-        RemoveAnswer::Refused { number: n, place } => vectors_cases::say_refused(rt, n, place),
+    match shelf::remove(area, number) {
+        Ok(()) => ok(rt),
+        Err(why) => println!(rt; "{why}"),
     }
 }
 
 fn answer_at(rt: &impl Print, area: &[u8], position: u64) -> io::Result<()> {
-    let r = shelf::at(area, position);
-    match r {
-        AtAnswer::Standing { number } => {
-            vectors_cases::say(rt, b"ok ", number)?;
-            vectors_cases::end_line(rt)
-        }
-        AtAnswer::Refused { number: n, place } => vectors_cases::say_refused(rt, n, place),
+    match shelf::at(area, position) {
+        Ok(standing) => println!(rt; "ok {standing}"),
+        Err(why) => println!(rt; "{why}"),
     }
 }
 
