@@ -4,6 +4,7 @@ use mathlib.Core.Path.{◌≡◌, refl}
 use mathlib.Core.List.{List, ◌∷◌, ◌++◌}
 use mathlib.Core.Bool.{true}
 use native.Mathlib.Omega.{arith}
+use Rattle.std.specs.Prelude.{Option, Some, None}
 use Rattle.json_grammar.specs.Rows.{look}
 use Rattle.json_grammar.specs.Byte.{is_tail}
 use Rattle.json_grammar.specs.String.{lead, letter}

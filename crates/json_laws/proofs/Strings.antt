@@ -5,6 +5,7 @@ use mathlib.Core.List.{List, ◌∷◌}
 use mathlib.Core.Bool.{Bool, true, false, cond}
 use lib.Dec.{eqb}
 use borrow.Author.Tests.{eqb-true}
+use Rattle.std.specs.Prelude.{Option, Some, None}
 use Rattle.json_grammar.specs.Byte.{is_hex, is_d, is_to_7, is_8_to_b, is_c_to_f, is_tail, within}
 use Rattle.json_grammar.specs.String.{lead, letter, after, after_lead, after_letter, go_if}
 use Rattle.json_grammar.specs.declared.string.Lead.{Lead}
