@@ -1,11 +1,12 @@
+-- What the proofs of several functions use.
 mod Utf8Chars
 mod Checked
 mod Details
-mod Laid
-mod LiesDetail
-mod FoundDetail
-mod Stands
-mod Pieces
-mod HeadValues
 mod Heads
-mod Read
+mod LiesDetail
+pub mod FoundDetail
+mod Laid
+pub mod Stands
+mod Pieces
+pub mod HeadValues
+pub mod Read
