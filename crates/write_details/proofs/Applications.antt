@@ -5,27 +5,28 @@ use Prim.Native.Nat.{ℕ, ◌+◌, ◌%◌, ◌<◌, ◌≤◌}
 use native.Mathlib.Omega.{arith}
 use Rattle.json_grammar.specs.Tree.{Elements, no_element}
 use Rattle.table_rows.specs.Standing.{tag_at, a_at}
+use Rattle.write_bytes.specs.declared.Output.{Output}
 use Rattle.write_details.specs.Prints.{Prints, DosagePrints, ApplicationPrints, at_time, in_segment, ApplicationsPrint, none, more}
-use Rattle.write_bytes.proofs.Laid.{puts_then, puts_as}
-use Rattle.write_details.proofs.Pieces.{PutsBytes, PutsWhole, PutsTime}
+use Rattle.write_bytes.proofs.Laid.{lays_then, lays_as}
+use Rattle.write_details.proofs.Pieces.{LaysBytes, LaysWhole, LaysTime}
 use Rattle.write_details.proofs.Listing.{Next, next}
 use Rattle.write_details.proofs.DosageTexts.{at_time_text, in_segment_text}
 
-module _ {ws : List ℕ} {i : ℕ} {before one two three four : List ℕ} {from r s u v tag a : ℕ} (read : i < 64 → tag ≡ tag_at ws i) (reads : i < 64 → a ≡ a_at ws i) where
-  pub at_time_prints : {after : List ℕ} {w : ℕ} → tag ≡ 17 → PutsBytes before from "{\"do\":" r one → Prints (DosagePrints ws (i + 1)) one r s two → PutsBytes two s ",\"dt\":\"" u three → PutsTime three u a v four → PutsBytes four v "\"}" w after
-      → Prints (ApplicationPrints ws i) before from w after
+module _ {ws : List ℕ} {i : ℕ} {before one two three four : Output} {tag a : ℕ} (read : i < 64 → tag ≡ tag_at ws i) (reads : i < 64 → a ≡ a_at ws i) where
+  pub at_time_prints : {after : Output} → tag ≡ 17 → LaysBytes before "{\"do\":" one → Prints (DosagePrints ws (i + 1)) one two → LaysBytes two ",\"dt\":\"" three → LaysTime three a four → LaysBytes four "\"}" after
+      → Prints (ApplicationPrints ws i) before after
   at_time_prints h p q x y z t k (at_time {dt = n} {d = d} at g dosage) =
       let m = reads at.inside ∙ at.a in
       let e : n ≡ a % 360000 = omega arith in
-      puts_as (at_time_text d n k (omega arith)) (rw e (puts_then (p _) (puts_then (q d _ dosage) (puts_then (x _) (puts_then (y _) (z k))))))
+      lays_as (at_time_text d n k (omega arith)) (rw e (lays_then (p _) (lays_then (q d _ dosage) (lays_then (x _) (lays_then (y _) (z k))))))
   at_time_prints h p q x y z t k (in_segment at g dosage) = let m = read at.inside ∙ at.tag in absurd (omega arith)
 
-  pub in_segment_prints : (tag ≡ 17 → ⊥) → PutsBytes before from "{\"do\":" r one → Prints (DosagePrints ws (i + 1)) one r s two → PutsWhole two s ",\"s\":" a u three → PutsBytes three u "}" v four
-      → Prints (ApplicationPrints ws i) before from v four
+  pub in_segment_prints : (tag ≡ 17 → ⊥) → LaysBytes before "{\"do\":" one → Prints (DosagePrints ws (i + 1)) one two → LaysWhole two ",\"s\":" a three → LaysBytes three "}" four
+      → Prints (ApplicationPrints ws i) before four
   in_segment_prints h p q x y t k (at_time at g dosage) = absurd (h (read at.inside ∙ at.tag))
   in_segment_prints h p q x y t k (in_segment {s = n} {d = d} at g dosage) =
       let e : n ≡ a = sym (reads at.inside ∙ at.a) in
-      puts_as (in_segment_text d n k) (rw e (puts_then (p _) (puts_then (q d _ dosage) (puts_then (x _ (omega arith)) (y k)))))
+      lays_as (in_segment_text d n k) (rw e (lays_then (p _) (lays_then (q d _ dosage) (lays_then (x _ (omega arith)) (y k)))))
 
 -- Record by record, two to an application.
 module _ {ws : List ℕ} {end r : ℕ} where

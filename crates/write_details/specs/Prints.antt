@@ -7,19 +7,20 @@ use Rattle.document.specs.Untable.{days_of}
 use Rattle.document.specs.Plain.{whole, amount, text_tree, time_text, field, field_if, typed, days_tree}
 use Rattle.document.specs.Spell.{spell, first_element}
 use Rattle.table_rows.specs.Standing.{At, below_at}
-use Rattle.write_bytes.specs.Puts.{Puts}
+use Rattle.write_bytes.specs.Puts.{Lays}
+use Rattle.write_bytes.specs.declared.Output.{Output}
 
 -- The text of a tree that is P is put.
-abbrev pub Prints : (Tree → Type 0) → List ℕ → ℕ → ℕ → List ℕ → Type 0
-Prints P before from r after = (t : Tree) (k : List ℕ) → P t → Puts before from (spell t k) k r after
+abbrev pub Prints : (Tree → Type 0) → Output → Output → Type 0
+Prints P before after = (t : Tree) (k : List ℕ) → P t → Lays before (spell t k) k after
 
 -- The same but for its closing brace.
-abbrev pub Opens : (Tree → Type 0) → List ℕ → ℕ → ℕ → List ℕ → Type 0
-Opens P before from r after = (t : Tree) (k : List ℕ) → P t → Puts before from (spell t k) (125 ∷ k) r after
+abbrev pub Opens : (Tree → Type 0) → Output → Output → Type 0
+Opens P before after = (t : Tree) (k : List ℕ) → P t → Lays before (spell t k) (125 ∷ k) after
 
 -- Elements that are P are put with commas between them, but for the closing bracket.
-abbrev pub Lists : (Elements → Type 0) → List ℕ → ℕ → ℕ → List ℕ → Type 0
-Lists P before from r after = (ts : Elements) (k : List ℕ) → P ts → Puts before from (first_element ts k) (93 ∷ k) r after
+abbrev pub Lists : (Elements → Type 0) → Output → Output → Type 0
+Lists P before after = (ts : Elements) (k : List ℕ) → P ts → Lays before (first_element ts k) (93 ∷ k) after
 
 module _ (ws : List ℕ) where
   pub data DosagePrints (i : ℕ) : Tree → Type 0 where

@@ -18,7 +18,7 @@ decreases-put_sequence l = 4 * l.left
 
 abbrev pub invariant-put_objects-loop-r : goal.invariant-put_objects-loop-r
 invariant-put_objects-loop-r l =
-    Reaches l.words l.buffer l.left l.end l.i l.r l.initial.out l.from l.at l.out
+    Reaches l.words l.buffer l.left l.end l.i l.r l.initial.out l.out
 
 abbrev pub decreases-put_objects-loop-r : goal.decreases-put_objects-loop-r
 decreases-put_objects-loop-r l = l.end - l.r

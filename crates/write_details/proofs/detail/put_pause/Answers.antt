@@ -3,4 +3,4 @@ use Rattle.write_details.proofs.detail.put_pause.Goals as goal
 
 pub returns : goal.returns
 returns c buffer left h =
-    prints_pause h c.put_span-at.ensures c.put.ensures
+    prints_pause h c.put_span.ensures c.put.ensures

@@ -3,4 +3,4 @@ use Rattle.write_details.proofs.detail.put_single.Goals as goal
 
 pub returns : goal.returns
 returns c buffer left h =
-    prints_single h c.put_all-at.ensures c.put_timed-at.ensures c.put.ensures
+    prints_single h c.put_all.ensures c.put_timed.ensures c.put.ensures

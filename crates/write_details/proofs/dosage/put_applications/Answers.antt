@@ -1,5 +1,5 @@
 use borrow.Author.Tests.{eq-eqb, ne_eqb}
-use mathlib.Core.Path.{refl, ap, ◌∙◌}
+use mathlib.Core.Path.{refl, ap}
 use mathlib.Core.Bool.{not}
 use Prim.Native.Nat.{◌+◌}
 use native.Mathlib.Omega.{arith}
@@ -11,23 +11,18 @@ use Rattle.write_details.proofs.dosage.put_applications.Goals as goal
 
 pub loop-r-init : goal.loop-r-init
 loop-r-init c =
-    (omega arith, refl, listed_none (ApplicationsPrint c.args.words.now c.args.end) c.args.i (not (eqb c.args.i c.args.i)) (ap not (eq-eqb c.args.i c.args.i refl)))
+    (omega arith, listed_none (ApplicationsPrint c.args.words.now c.args.end) c.args.i (not (eqb c.args.i c.args.i)) (ap not (eq-eqb c.args.i c.args.i refl)))
 
 pub loop-r-preserved : goal.loop-r-preserved
 loop-r-preserved c = (
   omega arith,
-  c.put_application-at.auto.out ∙ c.put_comma-at.auto.out ∙ c.loop-r.invariant.1,
-  listed_more (ApplicationsPrint c.args.words.now c.args.end) c.args.i c.loop-r.r (not (eqb c.loop-r.r c.args.i)) c.loop-r.invariant.2 (ApplicationPrints c.args.words.now c.loop-r.r) (c.loop-r.r + 2) (not (eqb (c.loop-r.r + 2) c.args.i))
+  listed_more (ApplicationsPrint c.args.words.now c.args.end) c.args.i c.loop-r.r (not (eqb c.loop-r.r c.args.i)) c.loop-r.invariant.1 (ApplicationPrints c.args.words.now c.loop-r.r) (c.loop-r.r + 2) (not (eqb (c.loop-r.r + 2) c.args.i))
       (ap not (ne_eqb (c.loop-r.r + 2) c.args.i (λ e. omega arith)))
       (application_next c.loop-r-test.true)
-      c.put_comma-at.ensures
-      c.put_application-at.ensures,
+      c.put_comma.ensures
+      c.put_application.ensures,
 )
-
-pub shape_of-out : goal.shape_of-out
-shape_of-out c =
-    c.loop-r.invariant.1
 
 pub returns : goal.returns
 returns c =
-    listed_all (ApplicationsPrint c.args.words.now c.args.end) c.args.i c.loop-r.r (not (eqb c.loop-r.r c.args.i)) c.loop-r.invariant.2 (applications_end c.loop-r-test.false)
+    listed_all (ApplicationsPrint c.args.words.now c.args.end) c.args.i c.loop-r.r (not (eqb c.loop-r.r c.args.i)) c.loop-r.invariant.1 (applications_end c.loop-r-test.false)

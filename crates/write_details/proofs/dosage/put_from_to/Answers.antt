@@ -5,4 +5,4 @@ pub returns : goal.returns
 returns c tag =
     from_to_opens tag
     c.a.ensures.here c.b.ensures.here c.c.ensures.here c.d.ensures.here
-    c.put_decimal-at.ensures c.put_decimal-at-2.ensures c.put_integer-at.ensures c.put_integer.ensures
+    c.put_decimal.ensures c.put_decimal-2.ensures c.put_integer.ensures c.put_integer-2.ensures
