@@ -6,7 +6,7 @@ ghost use Rattle.json_move.specs.Read.{decoded};
 ghost use Rattle.read_names.specs.Names.{index_of, numbered};
 
 use crate::names::{Name, name_of};
-use crate::packed::no_letter;
+use crate::packed::Packed;
 use crate::taking;
 
 #[derive(Clone, Copy)]
@@ -19,7 +19,7 @@ fn named_decoded(text: &[u8], quote: usize) -> Member
     ensures { (numbered result.name ≡ index_of (decoded (drop quote text.now))) × Moves value_of text.now quote result.value }
 {
     Member {
-        name: name_of(taking::decoded(no_letter(), text, quote)),
+        name: name_of(taking::decoded(Packed::none(), text, quote)),
         value: json_move::value_of(text, quote),
     }
 }
@@ -28,7 +28,7 @@ fn named_decoded(text: &[u8], quote: usize) -> Member
 pub(crate) fn named(text: &[u8], quote: usize) -> Member
     ensures { (numbered result.name ≡ index_of (decoded (drop quote text.now))) × Moves value_of text.now quote result.value }
 {
-    match taking::plain(no_letter(), text, quote) {
+    match taking::plain(Packed::none(), text, quote) {
         Some((p, end)) => Member {
             name: name_of(p),
             value: json_move::behind_colon(text, end),

@@ -13,14 +13,16 @@ pub(crate) struct Packed {
     pub letters: usize,
 }
 
-#[tactic(auto, using(crate::proofs::Packing::no_letter))]
-pub(crate) fn no_letter() -> Packed
-    ensures { Packs [] result }
-{
-    Packed {
-        head: 1,
-        tail: 1,
-        letters: 0,
+impl Packed {
+    #[tactic(auto, using(crate::proofs::Packing::no_letter))]
+    pub fn none() -> Packed
+        ensures { Packs [] result }
+    {
+        Packed {
+            head: 1,
+            tail: 1,
+            letters: 0,
+        }
     }
 }
 

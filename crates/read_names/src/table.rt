@@ -1,7 +1,7 @@
 // A table of names by their hashes.
 ghost use Rattle.std.specs.Prelude.{◌≡◌, ℕ, ◌%◌, length, drop};
 ghost use Rattle.json_move.specs.Read.{decoded};
-ghost use Rattle.read_names.specs.Names.{hash_on, hash_of, seed_of, first_slot, Sought};
+ghost use Rattle.read_names.specs.Names.{hash_of, seed_of, first_slot, Sought};
 
 use crate::taking;
 use crate::taking::Takes;
@@ -12,18 +12,7 @@ pub(crate) const TABLE: usize = 8192;
 // A place from here on has no room in a slot. Document 01's texts are at most half as long, though the run that one begins may be longer.
 const PLACES: usize = 65535;
 
-// One byte more in a hash of two halves: the low one is the middle of a product, so that names which differ in a digit or two do not start side by side.
-// The factor depends on the seed and on what came before: were it one for all, names that meet under one seed would often meet under another.
-#[tactic(auto, unfolding(crate::specs::Names::hash_on))]
-fn hash_on(seed: u64, h: u64, b: u8) -> u64
-    ensures { result ≡ hash_on seed h b }
-{
-    let high = h / 0x100000000;
-    let factor = 0x80000000 + (seed % 0x100000000 + high) % 0x40000000;
-    let low = (h % 0x100000000 + u64::from(b) + 1) * factor / 0x10000 % 0x100000000;
-    (high + low + seed / 0x100000000) % 0x100000000 * 0x100000000 + low
-}
-
+// A hash of two halves, with the seed that it goes by.
 #[derive(Clone, Copy)]
 pub(crate) struct Hash {
     pub seed: u64,
@@ -38,21 +27,26 @@ impl Takes for Hash {
 
     ghost took_none = { hashes_none };
 
-    #[tactic(auto, using(crate::proofs::Hashing::hash_more))]
+    // The low half is the middle of a product, so that names which differ in a digit or two do not start side by side.
+    // The factor depends on the seed and on what came before: were it one for all, names that meet under one seed would often meet under another.
+    #[tactic(auto, using(crate::proofs::Hashing::hash_more), unfolding(crate::specs::Names::hash_on))]
     fn with(self, b: u8) -> Hash {
+        let high = self.hash / 0x100000000;
+        let factor = 0x80000000 + (self.seed % 0x100000000 + high) % 0x40000000;
+        let low = (self.hash % 0x100000000 + u64::from(b) + 1) * factor / 0x10000 % 0x100000000;
         Hash {
             seed: self.seed,
-            hash: hash_on(self.seed, self.hash, b),
+            hash: (high + low + self.seed / 0x100000000) % 0x100000000 * 0x100000000 + low,
         }
     }
 }
 
-fn no_byte(seed: u64) -> Hash
-    ensures { (result.seed ≡ seed) × (result.hash ≡ 0) }
-{
-    Hash {
-        seed: seed,
-        hash: 0,
+impl Hash {
+    fn none(seed: u64) -> Hash
+        ensures seed { result.seed ≡ seed }
+        ensures hash { result.hash ≡ 0 }
+    {
+        Hash { seed, hash: 0 }
     }
 }
 
@@ -60,7 +54,7 @@ fn no_byte(seed: u64) -> Hash
 fn hash_of(text: &[u8], seed: u64) -> u64
     ensures { result ≡ hash_of seed text.now }
 {
-    taking::all(no_byte(seed), &text[..text.len().min(PLACES)]).hash
+    taking::all(Hash::none(seed), &text[..text.len().min(PLACES)]).hash
 }
 
 // The seed of the texts' own seeds: any number whose bits are mixed would do, as these of the golden ratio.
@@ -80,7 +74,7 @@ pub(crate) fn seed_of(text: &[u8]) -> u64
 fn first_slot(text: &[u8], quote: usize, seed: u64) -> usize
     ensures { result ≡ first_slot seed (decoded (drop quote text.now)) }
 {
-    let start = no_byte(seed);
+    let start = Hash::none(seed);
     let h = match taking::plain(start, text, quote) {
         Some((h, _)) => h,
         None => taking::decoded(start, text, quote),

@@ -10,5 +10,5 @@ use Rattle.read_names.proofs.table.hash_of.Goals as goal
 pub returns : goal.returns
 unfolding hash_of
 returns c =
-    let h = c.all.ensures _ [] (hashes_none c.no_byte.result) in
-    h.1 ∙ rw (c.no_byte.ensures.0, c.no_byte.ensures.1, c.min.ensures, min_comm (length c.args.text.now) 65535, take_min 65535 c.args.text.now)
+    let h = c.all.ensures _ [] (hashes_none c.none.result) in
+    h.1 ∙ rw (c.none.ensures.seed, c.none.ensures.hash, c.min.ensures, min_comm (length c.args.text.now) 65535, take_min 65535 c.args.text.now)
