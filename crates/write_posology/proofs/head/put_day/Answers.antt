@@ -1,9 +1,9 @@
-use Rattle.write_bytes.proofs.Laid.{puts_then, puts_as}
+use Rattle.write_bytes.proofs.Laid.{lays_then, lays_as}
 use Rattle.write_posology.proofs.HeadParts.{day_twos}
 use Rattle.write_posology.proofs.head.put_day.Goals as goal
 
 pub returns : goal.returns
 returns c k y m d =
-    puts_as (day_twos _ _ _ k y m d)
-    (puts_then (c.put_two-at.ensures _) (puts_then (c.put_two-at-2.ensures _) (puts_then (c.put-at.ensures _)
-    (puts_then (c.put_two-at-3.ensures _) (puts_then (c.put-at-2.ensures _) (c.put_two.ensures k))))))
+    lays_as (day_twos _ _ _ k y m d)
+    (rw (← c.from.ensures, ← c.from-2.ensures, ← c.from-3.ensures, ← c.from-4.ensures) (lays_then (c.put_two.ensures _) (lays_then (c.put_two-2.ensures _) (lays_then (c.put.ensures _)
+    (lays_then (c.put_two-3.ensures _) (lays_then (c.put-2.ensures _) (c.put_two-4.ensures k)))))))
