@@ -3,3 +3,11 @@ pub mod Elements
 pub mod Refusals
 mod DateLaws
 mod DateLengths
+mod ValueKinds
+mod Values
+mod Held
+mod Texts
+mod DateFields
+mod Fours
+mod DayLaws
+mod DayElements

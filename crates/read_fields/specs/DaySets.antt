@@ -1,5 +1,5 @@
 -- What the parts of the code for sets of days tell: the days that were marked, as bits, and the elements of a list of days.
-use Rattle.std.specs.Prelude.{ℕ, zero, suc, ◌+◌, ◌^◌, List, Bool, false, cond, get_or, Result, Ok, Err}
+use Rattle.std.specs.Prelude.{ℕ, zero, suc, ◌+◌, ◌^◌, List, Bool, false, cond, get_or, Result}
 use Rattle.json_grammar.specs.Tree.{Place, Elements, list}
 use Rattle.document.specs.Schema.{a_number, integer}
 use Rattle.document.specs.Visit.{State, Outcome, done, bind, guard, Value, values_of, each, distinct, ascending}
@@ -8,7 +8,6 @@ use Rattle.document.specs.Table.{day_set}
 use Rattle.document.specs.declared.terms.Used.{Used}
 use Rattle.read_fields.specs.Fields.{CountsFrom}
 use Rattle.document.specs.declared.refusal.Refusal.{Refusal}
-use Rattle.document.specs.declared.refusal.Reason.TheVariants as R
 use Rattle.read_fields.specs.declared.days.Days.{Days}
 use Rattle.read_fields.specs.declared.days.Days.TheVariants as D
 use Rattle.read_fields.specs.declared.field.Counted.{Counted}
@@ -22,11 +21,6 @@ most_of D.OfMonth = 28
 unfoldable pub bits : ℕ → List Bool → ℕ
 bits zero marks = 0
 bits (suc n) marks = bits n marks + cond (get_or marks (suc n) false) (2 ^ n) 0
-
--- Repeats, or the set.
-unfoldable pub told_days : ℕ → Bool → List Bool → Used → Result Counted Refusal
-unfolding bits
-told_days at again marks u = cond again (Err (record { 0 = R.WrongCount; 1 = at })) (Ok (record { value = bits 28 marks; used = u }))
 
 -- A list of days behind its count: the elements, then repeats.
 abbrev pub days_of : ℕ → Place → List Value → State → Outcome (List ℕ)

@@ -1,5 +1,5 @@
 -- What the parts of a field's code answer, each by what it was given.
-use Rattle.std.specs.Prelude.{ℕ, ◌-◌, ◌≡◌, ◌≢◌, List, Bool, true, false, cond, ltb, drop, take, length, ◌<◌, ◌≤◌, Option as Maybe, Some, None, Result, Ok, Err}
+use Rattle.std.specs.Prelude.{ℕ, ◌-◌, ◌≡◌, ◌≢◌, List, Bool, true, false, cond, ltb, drop, Option as Maybe, Some, None, Result, Ok, Err}
 use Rattle.std.proofs.Math.Option.{Option, none, some}
 use Rattle.json_move.specs.Moving.{kind_of}
 use Rattle.json_move.specs.declared.Kind.{Kind}
@@ -66,11 +66,6 @@ millionths_at v (Err e) = Err (unread v e)
 -- A string of n bytes, not empty, at the place v: 16.
 abbrev pub roomed : Terms → ℕ → ℕ → Used → Result Worded Refusal
 roomed terms v n u = cond (ltb (terms.room - u.text) n) (Err (record { 0 = R.NoTextRoom; 1 = v })) (Ok (record { quote = v; len = n; used = longer n u }))
-
--- The decoded bytes of a string, unless they are longer than any date.
-abbrev pub LaidBytes : List ℕ → Maybe (List ℕ × ℕ) → Type 0
-LaidBytes cs (Some laid) = (take laid.1 laid.0 ≡ cs) × (length cs ≡ laid.1) × (length cs ≤ 25)
-LaidBytes cs None = 25 < length cs
 
 -- A date by its decoded bytes: none, or one that is absent, or one that is there.
 abbrev pub dated : List ℕ → Option (Option P.Date)

@@ -6,7 +6,7 @@ ghost use Rattle.document.specs.Schema.{integer, decimal};
 ghost use Rattle.document.specs.Visit.{is_empty};
 ghost use Rattle.document.specs.Date.{time_of};
 ghost use Rattle.read_fields.specs.Fields.{ReadsAt, ReadsNeeded, CountsAt, CountsNeeded, CountsOptional, CountsStill, CountsWithin, ReadsFlag, ObjectAt, ObjectNeeded, ListNeeded, ReadsText, ReadsOptionalText, TakesText, ReadsDate, ReadsTime, Inside};
-ghost use Rattle.read_fields.specs.Reading.{standing, Required, OfKind, unread as unread_at, roomed, LaidBytes, DateAt, time_at};
+ghost use Rattle.read_fields.specs.Reading.{standing, Required, OfKind, unread as unread_at, roomed, DateAt, time_at};
 
 use crate::date;
 use document::refusal::{Reason, Refusal};
@@ -14,7 +14,6 @@ use document::table::Date;
 use document::terms;
 use document::terms::{Terms, Used};
 use document_numbers::NumberError;
-use json_lay::Laid;
 use json_move::Kind;
 
 // An integer, with what is taken behind it.
@@ -139,6 +138,7 @@ pub fn decimal_value(text: &[u8], at: usize, least: u64) -> Result<u64, Refusal>
     }
 }
 
+#[tactic(auto, using(crate::proofs::Values::number_missing, crate::proofs::Values::number_needed))]
 pub fn decimal_field(
     text: &[u8],
     brace: usize,
@@ -152,6 +152,7 @@ pub fn decimal_field(
 }
 
 // An absent mark is false.
+#[tactic(auto, using(crate::proofs::Values::flag_absent, crate::proofs::Values::flag_given, crate::proofs::Values::flag_refused))]
 pub fn flag_field(text: &[u8], v: Option<usize>) -> Result<bool, Refusal>
     ensures { ReadsFlag text.now v result }
 {
@@ -166,6 +167,7 @@ pub fn flag_field(text: &[u8], v: Option<usize>) -> Result<bool, Refusal>
 }
 
 // An object in a list: 4.
+#[tactic(auto, using(crate::proofs::Values::object_at, crate::proofs::Held::object_inside))]
 pub fn object_value(text: &[u8], at: usize) -> Result<usize, Refusal>
     ensures object_at { ObjectAt text.now at result }
     ensures inside { Inside text.now result }
@@ -174,6 +176,7 @@ pub fn object_value(text: &[u8], at: usize) -> Result<usize, Refusal>
 }
 
 // An object that must be there: 7, 4.
+#[tactic(auto, using(crate::proofs::Values::object_missing, crate::proofs::Values::object_needed))]
 pub fn object_field(text: &[u8], brace: usize, v: Option<usize>) -> Result<usize, Refusal>
     ensures object_needed { brace ≤ length text.now → ObjectNeeded text.now brace v result }
     ensures inside { Inside text.now result }
@@ -183,6 +186,7 @@ pub fn object_field(text: &[u8], brace: usize, v: Option<usize>) -> Result<usize
 }
 
 // A list that must be there: 7, 4.
+#[tactic(auto, using(crate::proofs::Values::list_missing, crate::proofs::Values::list_needed, crate::proofs::Held::array_inside))]
 pub fn list_field(text: &[u8], brace: usize, v: Option<usize>) -> Result<usize, Refusal>
     ensures list_needed { brace ≤ length text.now → ListNeeded text.now brace v result }
     ensures inside { Inside text.now result }
@@ -226,6 +230,7 @@ pub fn text_field(
 }
 
 // A string that may be absent: 4, 16.
+#[tactic(auto, using(crate::proofs::Texts::text_absent, crate::proofs::Texts::text_not_given, crate::proofs::Texts::empty_given, crate::proofs::Texts::text_given))]
 pub fn optional_text(
     text: &[u8],
     v: Option<usize>,
@@ -254,22 +259,14 @@ pub fn optional_text(
 // The longest date, yyyy-mm-ddThh:mm:ss+hh:mm.
 const DATE: usize = 25;
 
-// The decoded bytes of a string, in as many bytes as the longest date has, and their number.
-fn laid_bytes(text: &[u8], quote: usize) -> Option<([u8; DATE], usize)>
-    ensures { LaidBytes (decoded (drop quote text.now)) result }
-{
-    let mut bytes = [0; DATE];
-    match json_lay::lay(text, quote, &mut bytes, 0) {
-        Laid::Behind(len) => Some((bytes, len)),
-        Laid::NoRoom => None,
-    }
-}
-
 fn date_read(text: &[u8], quote: usize) -> Result<Date, Refusal>
     ensures { DateAt quote (decoded (drop quote text.now)) result }
 {
     let refusal = Refusal(Reason::NotADate, quote);
-    let (bytes, len) = laid_bytes(text, quote).ok_or(refusal)?;
+    let mut bytes = [0; DATE];
+    let Some(len) = json_lay::lay(text, quote, &mut bytes, 0) else {
+        return Err(refusal);
+    };
     if len == 0 {
         return Ok(Date::Absent);
     }
@@ -277,6 +274,7 @@ fn date_read(text: &[u8], quote: usize) -> Result<Date, Refusal>
 }
 
 // A date that may be absent: 4, 13.
+#[tactic(auto, using(crate::proofs::DateFields::date_absent, crate::proofs::DateFields::date_refused, crate::proofs::DateFields::date_given))]
 pub fn date_field(text: &[u8], v: Option<usize>) -> Result<Date, Refusal>
     ensures { ReadsDate text.now v result }
 {
@@ -291,7 +289,10 @@ fn time_read(text: &[u8], brace: usize, quote: usize) -> Result<u64, Refusal>
     ensures { result ≡ time_at brace quote (is_empty (decoded (drop quote text.now))) (time_of (decoded (drop quote text.now))) }
 {
     let refusal = Refusal(Reason::NotADate, quote);
-    let (bytes, len) = laid_bytes(text, quote).ok_or(refusal)?;
+    let mut bytes = [0; DATE];
+    let Some(len) = json_lay::lay(text, quote, &mut bytes, 0) else {
+        return Err(refusal);
+    };
     if len == 0 {
         return Err(Refusal(Reason::Missing, brace));
     }
@@ -299,6 +300,7 @@ fn time_read(text: &[u8], brace: usize, quote: usize) -> Result<u64, Refusal>
 }
 
 // A time of day that must be there: 7, 4, 13.
+#[tactic(auto, using(crate::proofs::DateFields::time_missing, crate::proofs::DateFields::time_refused, crate::proofs::DateFields::time_needed))]
 pub fn time_field(text: &[u8], brace: usize, v: Option<usize>) -> Result<u64, Refusal>
     ensures { brace ≤ length text.now → ReadsTime text.now brace v result }
 {
