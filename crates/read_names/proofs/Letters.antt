@@ -1,12 +1,9 @@
 -- The bytes of a name, taken one after the other, and the way over its letters to the member's value.
-use Prim.Native.Nat.{ℕ, ◌+◌, ◌<◌, ◌≤◌}
+use Prim.Native.Nat.{ℕ, ◌+◌, ◌<◌}
 use mathlib.Core.Path.{◌≡◌, refl, sym, ap, subst, ◌∙◌}
 use mathlib.Core.List.{List, [], ◌∷◌, ◌++◌, append_assoc, append-nil}
 use mathlib.Core.Bool.{false, not}
-use lib.ListN.{length, get_or, take, length-take, drop_of_length-le}
-use lib.Seq.{slice, slice-cons}
-use native.Mathlib.Numerals.{add-one}
-use native.Mathlib.Omega.{arith}
+use lib.ListN.{length, get_or}
 use borrow.Author.Tests.{not-false}
 use Rattle.json_grammar.specs.Tree.{Moves}
 use Rattle.json_grammar.specs.String.{is_ascii}

@@ -15,11 +15,13 @@ use Rattle.document.specs.Lookup.{same, has, repeated}
 use Rattle.document.specs.Visit.{entries_of}
 use Rattle.document.specs.At.{At}
 use Rattle.document.proofs.Same.{same_equal}
-use Rattle.read_names.specs.Names.{name_at, index_of, names_from, number_of, place_in, Settled}
+use Rattle.read_names.specs.Names.{spelled, name_of, names_from, number_of, place_in, Settled}
+use Rattle.read_names.specs.declared.names.Name.{Name}
+use Rattle.std.specs.Prelude.{Option, Some}
 use Rattle.read_names.specs.declared.slots.Slots.{Slots}
 use Rattle.std.specs.Prelude.{Ok, Err}
 use Rattle.std.specs.Option.{is_some}
-use Rattle.read_names.proofs.Naming.{number_small}
+use Rattle.read_names.proofs.Naming.{number_small, numbered}
 use Rattle.read_names.proofs.Numbered.{name_is, named_same}
 use Rattle.read_names.proofs.Before.{behind, behind_more, names_more}
 use Rattle.read_names.proofs.Rest.{Rest, Stands, rest_in, rest_one, rest_none, stands_at, first_above}
@@ -54,7 +56,7 @@ pub record Settling (text : List ℕ) (at : ℕ) (ms : Members) (slots : Slots) 
   pub count : m + length (entries_of left) ≡ length (entries_of ms)
   pub place : drop q text ≡ behind m (first_in (drop at text))
   pub before : (n : List ℕ) → has n seen ≡ has n (names_from m (first_in (drop at text)))
-  pub slot : (i : ℕ) → i < 33 → Slotted text (name_at i) seen (entries_of ms) (entries_of left) (get_or slots.places i 0)
+  pub slot : (m : Name) → Slotted text (spelled m) seen (entries_of ms) (entries_of left) (get_or slots.places (number_of m) 0)
   pub size : length slots.places ≡ 33
   pub ahead : 0 < q
   pub inside : q ≤ length text
@@ -75,7 +77,7 @@ settling_none {text} {at} {p} {ms} {slots} {q} a m size zeros =
       count = omega arith;
       place = m.lands;
       before = λ n. refl;
-      slot = λ i h. rw (zeros i h) (free refl refl);
+      slot = λ m. rw (zeros (number_of m) (number_small m)) (free refl refl);
       size = size;
       ahead = omega (arith, first_above text at q a m);
       inside = m.inside (omega (arith, a.inside));
@@ -93,7 +95,7 @@ module _ {text : List ℕ} {at : ℕ} {ms : Members} {slots : Slots} {m q : ℕ}
   over e =
       record {
         once = s.repeats ∙ rw e;
-        slot = λ n. slotted_end (rw e at (s.slot (number_of n) (number_small n)));
+        slot = λ n. slotted_end (rw e at (s.slot n));
         count = omega (arith, s.count, ap (λ x. length (entries_of x)) e);
       }
 
@@ -104,11 +106,9 @@ module _ {text : List ℕ} {at : ℕ} {ms : Members} {slots : Slots} {m q : ℕ}
   settled_all h = let z : length text - m ≡ 0 = omega arith in over (s.turns ∙ rw z (members_none (drop q text)))
 
   -- whether a name stood before
-  module _ (k : ℕ) (l : k < 33) (e : k ≡ index_of (decoded (drop q text))) where
-    pub stood : is_some (place_in (get_or slots.places k 0)) ≡ has (decoded (drop q text)) s.seen
-    stood =
-        let is : decoded (drop q text) ≡ name_at k = rw (← e) at (name_is (decoded (drop q text)) (rw (← e) l)) in
-        rw is (slotted_has (s.slot k l))
+  module _ (k : Name) (e : Some k ≡ name_of (decoded (drop q text))) where
+    pub stood : is_some (place_in (get_or slots.places (number_of k) 0)) ≡ has (decoded (drop q text)) s.seen
+    stood = rw (name_is (decoded (drop q text)) (sym e)) (slotted_has (s.slot k))
 
   module _ (stays : at_end (drop q text) ≡ false) where
     one : Stands s.left (drop q text)
@@ -120,29 +120,30 @@ module _ {text : List ℕ} {at : ℕ} {ms : Members} {slots : Slots} {m q : ℕ}
     settled_twice twice = (s.repeats ∙ rw (one.is, twice), s.inside)
 
     -- it did not, and the member is passed
-    module _ (fresh : has (decoded (drop q text)) s.seen ≡ false) (less : m < length text) (k : ℕ) (e : k ≡ index_of (decoded (drop q text)))
-        (v : ℕ) (to : Moves behind_name text q v) (r : ℕ) (on : Moves next_after text v r) (after : Slots) (noted : Noted slots.places k v after.places) where
+    module _ (fresh : has (decoded (drop q text)) s.seen ≡ false) (less : m < length text) (o : Option Name) (e : o ≡ name_of (decoded (drop q text)))
+        (v : ℕ) (to : Moves behind_name text q v) (r : ℕ) (on : Moves next_after text v r) (after : Slots) (noted : Noted slots.places (numbered o) v after.places) where
       next : drop r text ≡ next_after (behind_name (drop q text))
       next = on.lands ∙ ap next_after to.lands
 
-      slot_on : (i : ℕ) → i < 33 → Slotted text (name_at i) (decoded (drop q text) ∷ s.seen) (entries_of ms) (entries_of one.others) (get_or after.places i 0)
+      slot_on : (k : Name) → Slotted text (spelled k) (decoded (drop q text) ∷ s.seen) (entries_of ms) (entries_of one.others) (get_or after.places (number_of k) 0)
       unfolding entries_of
-      slot_on i l = go (eqb i k) refl
+      slot_on k = go (eqb (number_of k) (numbered o)) refl
         where
-          was : Slotted text (name_at i) s.seen (entries_of ms) (entry (drop q text) (decoded (drop q text)) one.tree ∷ entries_of one.others) (get_or slots.places i 0)
-          was = subst (λ x. Slotted text (name_at i) s.seen (entries_of ms) (entries_of x) (get_or slots.places i 0)) one.is (s.slot i l)
+          was : Slotted text (spelled k) s.seen (entries_of ms) (entry (drop q text) (decoded (drop q text)) one.tree ∷ entries_of one.others) (get_or slots.places (number_of k) 0)
+          was = subst (λ x. Slotted text (spelled k) s.seen (entries_of ms) (entries_of x) (get_or slots.places (number_of k) 0)) one.is (s.slot k)
 
-          is : same (name_at i) (decoded (drop q text)) ≡ eqb i k
-          is = named_same i l (decoded (drop q text)) ∙ ap (λ x. eqb i x) (sym e)
+          is : same (spelled k) (decoded (drop q text)) ≡ eqb (number_of k) (numbered o)
+          is = named_same k (decoded (drop q text)) ∙ ap (λ x. eqb (number_of k) (numbered x)) (sym e)
 
-          go : (x : Bool) → eqb i k ≡ x → Slotted text (name_at i) (decoded (drop q text) ∷ s.seen) (entries_of ms) (entries_of one.others) (get_or after.places i 0)
+          go : (x : Bool) → eqb (number_of k) (numbered o) ≡ x
+              → Slotted text (spelled k) (decoded (drop q text) ∷ s.seen) (entries_of ms) (entries_of one.others) (get_or after.places (number_of k) 0)
           go true z =
-              let n = same_equal (name_at i) (decoded (drop q text)) (is ∙ z) in
-              let new : has (name_at i) s.seen ≡ false = rw n fresh in
-              let filled : get_or after.places i 0 ≡ v = noted.slot i l ∙ rw z in
+              let n = same_equal (spelled k) (decoded (drop q text)) (is ∙ z) in
+              let new : has (spelled k) s.seen ≡ false = rw n fresh in
+              let filled : get_or after.places (number_of k) 0 ≡ v = noted.slot k ∙ rw z in
               rw filled (slotted_here (drop q text) (decoded (drop q text)) one.tree (is ∙ z) new was (omega (arith, s.ahead, to.ahead)) (stands_at text v one.value to.lands))
           go false z =
-              let kept : get_or after.places i 0 ≡ get_or slots.places i 0 = noted.slot i l ∙ rw z in
+              let kept : get_or after.places (number_of k) 0 ≡ get_or slots.places (number_of k) 0 = noted.slot k ∙ rw z in
               rw kept (slotted_other (drop q text) (decoded (drop q text)) one.tree (is ∙ z) was)
 
       pub settling_on : Settling text at ms after (m + 1) r
@@ -163,7 +164,7 @@ module _ {text : List ℕ} {at : ℕ} {ms : Members} {slots : Slots} {m q : ℕ}
             count = omega (arith, s.count, ap (λ x. length (entries_of x)) o.is);
             place = next ∙ rw (s.place, add-one) (sym (behind_more m (first_in (drop at text))));
             before = λ n. rw add-one (ap (λ x. same n (decoded x) || has n s.seen) s.place ∙ rw (s.before n) (sym (names_more n m (first_in (drop at text)))));
-            slot = λ i l. slot_on i l;
+            slot = slot_on;
             size = noted.size ∙ s.size;
             ahead = omega (arith, s.ahead, to.ahead, on.ahead);
             inside = on.inside (to.inside s.inside);

@@ -1,5 +1,5 @@
 -- A slot while the members are gone through.
-use Prim.Native.Nat.{ℕ, zero, suc, ◌<◌, ◌≤◌}
+use Prim.Native.Nat.{ℕ, zero, suc, ◌<◌}
 use mathlib.Core.Path.{◌≡◌, refl, sym, ap, subst, ◌∙◌}
 use mathlib.Core.List.{List, [], ◌∷◌}
 use mathlib.Core.Bool.{Bool, true, false, cond, false≢true}
@@ -14,7 +14,9 @@ use Rattle.document.specs.Visit.{Value, value_of}
 use Rattle.document.specs.At.{At, Slot, empty, filled}
 use Rattle.std.specs.Prelude.{Some, None}
 use Rattle.std.specs.Option.{is_some}
-use Rattle.read_names.specs.Names.{place_in}
+use Rattle.read_names.specs.Names.{place_in, number_of}
+use Rattle.read_names.specs.declared.names.Name.{Name}
+use Rattle.read_names.proofs.Naming.{number_small}
 
 abbrev pub entry : Place → List ℕ → Tree → Entry Value
 entry q n t = record { quote = q; name = n; value = value_of t }
@@ -51,19 +53,20 @@ module _ {text n : List ℕ} {seen : List (List ℕ)} {es : List (Entry Value)} 
 -- The slots with one more: v for the name of number k.
 pub record Noted (slots : List ℕ) (k v : ℕ) (after : List ℕ) : Type 0 where
   pub size : length after ≡ length slots
-  pub slot : (i : ℕ) → i < 33 → get_or after i 0 ≡ cond (eqb i k) v (get_or slots i 0)
+  pub slot : (m : Name) → get_or after (number_of m) 0 ≡ cond (eqb (number_of m) k) v (get_or slots (number_of m) 0)
 
-module _ (slots : List ℕ) (k v : ℕ) where
-  pub noted_known : length slots ≡ 33 → k < 33 → (after : List ℕ) → after ≡ set slots k v → Noted slots k v after
-  noted_known s h after e = record { size = ap length e ∙ length-set slots k v; slot = λ i l. ap (λ x. get_or x i 0) e ∙ go i (eqb i k) refl }
+module _ (slots : List ℕ) (v : ℕ) where
+  pub noted_known : length slots ≡ 33 → (n : Name) (after : List ℕ) → after ≡ set slots (number_of n) v → Noted slots (number_of n) v after
+  noted_known s n after e =
+      record { size = ap length e ∙ length-set slots (number_of n) v; slot = λ m. ap (λ x. get_or x (number_of m) 0) e ∙ go (number_of m) (eqb (number_of m) (number_of n)) refl }
     where
-      go : (i : ℕ) (x : Bool) → eqb i k ≡ x → get_or (set slots k v) i 0 ≡ cond (eqb i k) v (get_or slots i 0)
-      go i true z = let e = eqb-true i k z in rw (z, e) (get_or-set_same slots k v 0 (omega arith))
-      go i false z = rw z (get_or-set_other slots k i v 0 (eqb-false i k z))
+      go : (i : ℕ) (x : Bool) → eqb i (number_of n) ≡ x → get_or (set slots (number_of n) v) i 0 ≡ cond (eqb i (number_of n)) v (get_or slots i 0)
+      go i true z = let e = eqb-true i (number_of n) z in rw (z, e) (get_or-set_same slots (number_of n) v 0 (omega (arith, number_small n)))
+      go i false z = rw z (get_or-set_other slots (number_of n) i v 0 (eqb-false i (number_of n) z))
 
-  pub noted_other : 33 ≤ k → (after : List ℕ) → after ≡ slots → Noted slots k v after
-  noted_other h after e =
+  pub noted_other : (after : List ℕ) → after ≡ slots → Noted slots 33 v after
+  noted_other after e =
       record {
         size = ap length e;
-        slot = λ i l. ap (λ x. get_or x i 0) e ∙ rw (ne_eqb i k (λ z. omega arith));
+        slot = λ m. ap (λ x. get_or x (number_of m) 0) e ∙ rw (ne_eqb (number_of m) 33 (λ z. omega (arith, number_small m)));
       }

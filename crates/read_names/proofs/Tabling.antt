@@ -11,8 +11,11 @@ use Rattle.json_move.specs.Moving.{first_in, next_after, at_end, value_of as beh
 use Rattle.json_move.specs.Read.{decoded}
 use Rattle.document.specs.Lookup.{has}
 use Rattle.document.specs.At.{At}
-use Rattle.read_names.specs.Names.{index_of, names_from, Searched, Sought}
+use Rattle.read_names.specs.Names.{name_of, names_from, Searched, Sought}
 use Rattle.read_names.specs.declared.slots.Slots.{Slots}
+use Rattle.read_names.specs.declared.names.Name.{Name}
+use Rattle.std.specs.Prelude.{Option}
+use Rattle.read_names.proofs.Naming.{numbered}
 use Rattle.read_names.specs.declared.table.Found.TheVariants as F
 use Rattle.read_names.proofs.Slotted.{Noted}
 use Rattle.read_names.proofs.Members.{Settling, settling_none, seen_none, settling_on, seen_on}
@@ -61,16 +64,16 @@ module _ {seed : ℕ} {text : List ℕ} {at : ℕ} {ms : Members} {slots : Slots
 
   -- a near place is as it stands in the slot
   pub tabling_on : at_end (drop q text) ≡ false → m < length text → {entered : List ℕ} → Passed seed text q table t.settling.seen entered
-      → (k : ℕ) → k ≡ index_of (decoded (drop q text)) → (v : ℕ) → Moves behind_name text q v → (r : ℕ) → Moves next_after text v r
-      → (after : Slots) → Noted slots.places k v after.places → Tabling seed text at ms after entered (m + 1) r
-  tabling_on stays less {entered} p k known v to r on after noted =
+      → (o : Option Name) → o ≡ name_of (decoded (drop q text)) → (v : ℕ) → Moves behind_name text q v → (r : ℕ) → Moves next_after text v r
+      → (after : Slots) → Noted slots.places (numbered o) v after.places → Tabling seed text at ms after entered (m + 1) r
+  tabling_on stays less {entered} p o known v to r on after noted =
       let s = t.settling in
       record {
-        settling = settling_on s stays p.new less k known v to r on after noted;
+        settling = settling_on s stays p.new less o known v to r on after noted;
         size = p.enters.size ∙ t.size;
         tabled = λ near.
             let b : q < 65535 = omega (arith, to.ahead, on.ahead) in
             let z : q + 1 - 1 ≡ q = omega arith in
-            subst (λ x. Tabled seed text entered x) (sym (seen_on s stays p.new less k known v to r on after noted))
+            subst (λ x. Tabled seed text entered x) (sym (seen_on s stays p.new less o known v to r on after noted))
             (tabled_on (t.tabled b) (p.searched b) p.new (omega arith) (rw z) p.enters);
       }

@@ -16,28 +16,31 @@ use Rattle.document.specs.Lookup.{Entry, Found, nothing, same, has, find, unknow
 use Rattle.document.specs.Visit.{Value, entries_of}
 use Rattle.document.specs.At.{At, Slot, empty, filled}
 use Rattle.json_grammar.proofs.Truth.{and_left, and_right}
-use Rattle.read_names.specs.Names.{spelled, index_of, members_in, Once, row_names, is_in, is_row, standing_of, Tells, number_of, place_of}
+use Rattle.read_names.specs.Names.{spelled, name_of, members_in, Once, row_names, is_in, is_among, is_row, standing_of, Tells, number_of, place_of}
 use Rattle.read_names.specs.declared.names.Name.{Name}
 use Rattle.read_names.specs.declared.slots.Slots.{Slots}
 use Rattle.read_names.specs.declared.slots.Object.{Object}
 use Rattle.std.specs.Prelude.{Option as Place_or}
 use Rattle.std.specs.Option.{is_some}
 use Rattle.std.proofs.lemmas.List.Sums.{sum_by-cons}
-use Rattle.read_names.proofs.Naming.{number_small}
+use Rattle.read_names.proofs.Naming.{numbered, number_in, among_by}
 use Rattle.read_names.proofs.Numbered.{named_same, same_named}
 use Rattle.read_names.proofs.Members.{members_more, members_end, members_none}
 
 -- ---- a row's names by their numbers
 module _ (k : Name) (ks : List Name) (row : is_row (k ∷ ks) ≡ true) where
-  row_once : is_in (number_of k) ks ≡ false
-  row_once = not-true (is_in (number_of k) ks) (and_left _ _ row)
+  row_once : is_in k ks ≡ false
+  row_once = not-true (is_in k ks) (and_left _ _ row)
 
   row_rest : is_row ks ≡ true
-  row_rest = and_right (not (is_in (number_of k) ks)) _ row
+  row_rest = and_right (not (is_in k ks)) _ row
 
-pub row_has : (row : List Name) (n : List ℕ) → has n (row_names row) ≡ is_in (index_of n) row
-row_has [] n = refl
-row_has (k ∷ ks) n = rw (same_named (number_of k) (number_small k) n, row_has ks n)
+row_by : (row : List Name) (n : List ℕ) → has n (row_names row) ≡ number_in (numbered (name_of n)) row
+row_by [] n = refl
+row_by (k ∷ ks) n = rw (same_named k n, row_by ks n)
+
+row_has : (row : List Name) (n : List ℕ) → has n (row_names row) ≡ is_among (name_of n) row
+row_has row n = row_by row n ∙ sym (among_by (name_of n) row)
 
 -- ---- the members gone through again
 module _ (row : List Name) (left : ℕ) (s : Place) where
@@ -53,11 +56,11 @@ module _ (row : List Name) (left : ℕ) (s : Place) where
   unknown_none h = let z : left ≡ 0 = omega arith in rw (z, members_none s)
 
   module _ (h : 0 < left) (e : at_end s ≡ false) where
-    pub unknown_here : not (is_in (index_of (decoded s)) row) ≡ true → rest ≡ some s
+    pub unknown_here : not (is_among (name_of (decoded s)) row) ≡ true → rest ≡ some s
     unfolding entries_of
     unknown_here f = rw (members_more left s h e, row_has row (decoded s), f)
 
-    pub unknown_on : not (is_in (index_of (decoded s)) row) ≡ false → unknown (row_names row) (entries_of (members_at (left - 1) (next_after (behind_name s)))) ≡ rest
+    pub unknown_on : not (is_among (name_of (decoded s)) row) ≡ false → unknown (row_names row) (entries_of (members_at (left - 1) (next_after (behind_name s)))) ≡ rest
     unfolding entries_of
     unknown_on f = rw (members_more left s h e, row_has row (decoded s), f)
 
@@ -125,16 +128,16 @@ stands_named text o n es s = go (is_some o) refl
 module _ (k : Name) (ks : List Name) (row : is_row (k ∷ ks) ≡ true) where
   one_row : (n : List ℕ) → one_if (same (spelled k) n) + one_if (has n (row_names ks)) ≤ one_if (same n (spelled k) || has n (row_names ks))
   one_row n =
-      rw (named_same (number_of k) (number_small k) n, same_named (number_of k) (number_small k) n, row_has ks n)
-      (go (eqb (number_of k) (index_of n)) refl)
+      rw (named_same k n, same_named k n, row_by ks n)
+      (go (eqb (number_of k) (numbered (name_of n))) refl)
     where
-      go : (x : Bool) → eqb (number_of k) (index_of n) ≡ x
-          → one_if (eqb (number_of k) (index_of n)) + one_if (is_in (index_of n) ks) ≤ one_if (eqb (index_of n) (number_of k) || is_in (index_of n) ks)
+      go : (x : Bool) → eqb (number_of k) (numbered (name_of n)) ≡ x
+          → one_if (eqb (number_of k) (numbered (name_of n))) + one_if (number_in (numbered (name_of n)) ks) ≤ one_if (eqb (numbered (name_of n)) (number_of k) || number_in (numbered (name_of n)) ks)
       go true z =
-          let e = eqb-true (number_of k) (index_of n) z in
-          let absent : is_in (index_of n) ks ≡ false = rw (← e) (row_once k ks row) in
-          rw (z, absent, eq-eqb (index_of n) (number_of k) (sym e)) (omega arith)
-      go false z = rw (z, ne_eqb (index_of n) (number_of k) (λ y. eqb-false (number_of k) (index_of n) z (sym y))) (omega arith)
+          let e = eqb-true (number_of k) (numbered (name_of n)) z in
+          let absent : number_in (numbered (name_of n)) ks ≡ false = rw (← e) (row_once k ks row) in
+          rw (z, absent, eq-eqb (numbered (name_of n)) (number_of k) (sym e)) (omega arith)
+      go false z = rw (z, ne_eqb (numbered (name_of n)) (number_of k) (λ y. eqb-false (number_of k) (numbered (name_of n)) z (sym y))) (omega arith)
 
   row_known : (es : List (Entry Value)) → named (spelled k) es + known (row_names ks) es ≤ known (row_names (k ∷ ks)) es
   row_known [] = omega arith

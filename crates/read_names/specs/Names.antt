@@ -1,6 +1,6 @@
 -- The names of document 01's members by number, and what one walk over an object's members settles.
 use Rattle.std.specs.Prelude.{ℕ, zero, suc, ◌+◌, ◌-◌, ◌*◌, ◌/◌, ◌%◌, ◌<◌, ◌≤◌, ◌≡◌, List, [], ◌∷◌, ◌++◌, Bool, true, false, cond, ◌&&◌, not, length, drop, take, get_or, eqb, leb, min, Option, Some, None, Result, Ok, Err}
-use Rattle.std.specs.List.{list_any, count_by}
+use Rattle.std.specs.List.{list_any, count_by, find as first_of}
 use Rattle.std.specs.Option.{is_some}
 use Rattle.std.proofs.Math.Option.{Option as Maybe, none, some}
 use Rattle.json_grammar.specs.Tree.{Place, Members, object}
@@ -67,22 +67,20 @@ number_of N.ApplInstr = 30
 number_of N.Roa = 31
 number_of N.Moa = 32
 
--- 33 for none of the names.
-abbrev pub numbered : Option Name → ℕ
-numbered None = 33
-numbered (Some n) = number_of n
-
 abbrev pub spelled : Name → List ℕ
 spelled n = name_at (number_of n)
 
--- The number of a name, or 33.
-abbrev pub index_in : List (List ℕ) → ℕ → List ℕ → ℕ
-index_in [] k n = k
-index_in (m ∷ ms) k n = cond (same n m) k (index_in ms (suc k) n)
+-- In the order of their numbers.
+abbrev pub all_names : List Name
+all_names =
+    N.T ∷ N.Ds ∷ N.Text ∷ N.Tdo ∷ N.CyDuU ∷ N.CyDu ∷ N.Tdpc ∷ N.Sos ∷ N.Do ∷ N.Ts ∷ N.Ss ∷ N.Wds ∷ N.Doms ∷ N.MiDu ∷
+    N.MiDuU ∷ N.A ∷ N.AFrom ∷ N.ATo ∷ N.DuU ∷ N.Du ∷ N.AMin ∷ N.AMax ∷ N.Po ∷ N.Dt ∷ N.S ∷ N.DtFrom ∷ N.DtTo ∷ N.InRes ∷
+    N.RelMeal ∷ N.Unit ∷ N.ApplInstr ∷ N.Roa ∷ N.Moa ∷ []
 
-unfoldable pub index_of : List ℕ → ℕ
-unfolding names
-index_of n = index_in names 0 n
+-- Which name some bytes spell.
+unfoldable pub name_of : List ℕ → Option Name
+unfolding names name_at
+name_of n = first_of (λ m. same n (spelled m)) all_names
 
 -- Bytes as one number, behind those that make v.
 unfoldable pub pack : ℕ → List ℕ → ℕ
@@ -113,15 +111,13 @@ pub record Packs (name : List ℕ) (p : Packed) : Type 0 where
 abbrev pub PacksOn : Packed → List ℕ → Packed → Type 0
 PacksOn p bytes q = (name : List ℕ) → Packs name p → Packs (name ++ bytes) q
 
--- The number of a name by its packed bytes.
-abbrev pub packed_in : List (List ℕ) → ℕ → ℕ → ℕ → ℕ
-packed_in [] k head tail = k
-packed_in (m ∷ ms) k head tail = cond (eqb tail (tail_of m) && eqb head (head_of m)) k (packed_in ms (suc k) head tail)
+abbrev pub is_packed : ℕ → ℕ → Name → Bool
+is_packed head tail m = eqb tail (tail_of (spelled m)) && eqb head (head_of (spelled m))
 
--- The same for a name of at most seven.
-unfoldable pub short_index : ℕ → ℕ
-unfolding names head_of tail_of
-short_index head = packed_in names 0 head 1
+-- Which name of at most seven bytes is packed so.
+unfoldable pub short_name : ℕ → Option Name
+unfolding names name_at head_of tail_of
+short_name head = first_of (is_packed head 1) all_names
 
 -- The names of the first members from a place on.
 unfoldable pub names_from : ℕ → Place → List (List ℕ)
@@ -205,14 +201,18 @@ abbrev pub row_names : List Name → List (List ℕ)
 row_names [] = []
 row_names (n ∷ ns) = spelled n ∷ row_names ns
 
--- Whether a number is that of a name in a row.
-abbrev pub is_in : ℕ → List Name → Bool
-is_in k ns = list_any (λ n. eqb k (number_of n)) ns
+abbrev pub is_in : Name → List Name → Bool
+is_in n ns = list_any (λ m. eqb (number_of n) (number_of m)) ns
+
+-- Whether a member's name is one of a row.
+abbrev pub is_among : Option Name → List Name → Bool
+is_among None ns = false
+is_among (Some n) ns = is_in n ns
 
 -- A row has no name twice.
 abbrev pub is_row : List Name → Bool
 is_row [] = true
-is_row (n ∷ ns) = not (is_in (number_of n) ns) && is_row ns
+is_row (n ∷ ns) = not (is_in n ns) && is_row ns
 
 -- How many of a row's names stand.
 abbrev pub standing_of : Slots → List Name → ℕ

@@ -3,7 +3,7 @@ ghost use Rattle.std.specs.Prelude.{◌≡◌, drop};
 ghost use Rattle.json_grammar.specs.Tree.{Moves};
 ghost use Rattle.json_move.specs.Moving.{value_of};
 ghost use Rattle.json_move.specs.Read.{decoded};
-ghost use Rattle.read_names.specs.Names.{index_of, numbered};
+ghost use Rattle.read_names.specs.Names.{name_of};
 
 use crate::names::{Name, name_of};
 use crate::packed::Packed;
@@ -16,7 +16,7 @@ pub(crate) struct Member {
 }
 
 fn named_decoded(text: &[u8], quote: usize) -> Member
-    ensures { (numbered result.name ≡ index_of (decoded (drop quote text.now))) × Moves value_of text.now quote result.value }
+    ensures { (result.name ≡ name_of (decoded (drop quote text.now))) × Moves value_of text.now quote result.value }
 {
     Member {
         name: name_of(taking::decoded(Packed::none(), text, quote)),
@@ -26,7 +26,7 @@ fn named_decoded(text: &[u8], quote: usize) -> Member
 
 // The member whose name's quote stands at `quote`.
 pub(crate) fn named(text: &[u8], quote: usize) -> Member
-    ensures { (numbered result.name ≡ index_of (decoded (drop quote text.now))) × Moves value_of text.now quote result.value }
+    ensures { (result.name ≡ name_of (decoded (drop quote text.now))) × Moves value_of text.now quote result.value }
 {
     match taking::plain(Packed::none(), text, quote) {
         Some((p, end)) => Member {

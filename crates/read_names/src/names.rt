@@ -1,6 +1,6 @@
 // The names, and which of them a packed one is.
 ghost use Rattle.std.specs.Prelude.{◌≡◌, List, ℕ};
-ghost use Rattle.read_names.specs.Names.{index_of, short_index, numbered, Packs};
+ghost use Rattle.read_names.specs.Names.{Packs, name_of, short_name};
 
 use crate::packed::Packed;
 
@@ -45,9 +45,9 @@ pub enum Name {
 pub(crate) const NAMES: usize = 33;
 
 // Of at most seven bytes.
-#[tactic(auto, unfolding(crate::specs::Names::short_index))]
+#[tactic(auto, unfolding(crate::specs::Names::short_name))]
 fn short_name(head: u64) -> Option<Name>
-    ensures { numbered result ≡ short_index head }
+    ensures { result ≡ short_name head }
 {
     let name = match head {
         0x174 => Name::T,
@@ -88,7 +88,7 @@ fn short_name(head: u64) -> Option<Name>
 }
 
 pub(crate) fn name_of(p: Packed) -> Option<Name>
-    ensures { (name : List ℕ) → Packs name p → numbered result ≡ index_of name }
+    ensures { (name : List ℕ) → Packs name p → result ≡ name_of name }
 {
     if p.tail == 1 {
         return short_name(p.head);

@@ -4,14 +4,14 @@ ghost use Rattle.json_grammar.specs.Tree.{Place, Members, object};
 ghost use Rattle.document.specs.Lookup.{unknown};
 ghost use Rattle.document.specs.Visit.{entries_of};
 ghost use Rattle.document.specs.At.{At};
-ghost use Rattle.read_names.specs.Names.{members_in, Once, row_names, is_in, is_row, numbered, standing_of, Tells};
+ghost use Rattle.read_names.specs.Names.{members_in, Once, row_names, is_among, is_row, standing_of, Tells};
 
 use crate::member;
 use crate::names::Name;
 use crate::slots::{Object, Slots};
 
 fn is_among(known: &[Name], name: Option<Name>) -> bool
-    ensures { result ≡ is_in (numbered name) known.now }
+    ensures { result ≡ is_among name known.now }
 {
     match name {
         Some(n) => known.contains(&n),

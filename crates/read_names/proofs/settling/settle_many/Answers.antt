@@ -2,8 +2,7 @@ use mathlib.Core.Path.{◌≡◌, refl, sym, ◌∙◌}
 use lib.ListN.{length, length-replicate, get_or-replicate}
 use Prim.Native.Nat.{ℕ}
 use native.Mathlib.Omega.{arith}
-use Rattle.read_names.specs.Names.{numbered}
-use Rattle.read_names.proofs.Naming.{number_small}
+use Rattle.read_names.proofs.Naming.{numbered}
 use Rattle.read_names.proofs.Slotted.{Noted, noted_known, noted_other}
 use Rattle.read_names.proofs.Members.{settled_end, settled_all, settled_twice}
 use Rattle.read_names.proofs.Tabling.{tabling_none, tabled_twice, before_is, passed_free, passed_nowhere, tabling_on}
@@ -37,8 +36,8 @@ loop-preserved c =
     let put : (c.match-m.object.members ≡ c.loop.object.members)
     × (length c.loop.object.slots.places ≡ 33 → Noted c.loop.object.slots.places (numbered c.named-m.result.name) c.named-m.result.value c.match-m.object.slots.places) =
     elim c.match-m.branch [
-      | in-Some w ↦ rw (w.object-is, w.in-Some.is) (refl, λ size. noted_known _ _ _ size (number_small w.in-Some.name) _ w.put.ensures)
-      | in_default w ↦ rw (w.object-is, w.in_default.is) (refl, λ size. noted_other _ _ _ (omega arith) _ refl)
+      | in-Some w ↦ rw (w.object-is, w.in-Some.is) (refl, λ size. noted_known _ _ size w.in-Some.name _ w.put.ensures)
+      | in_default w ↦ rw (w.object-is, w.in_default.is) (refl, λ size. noted_other _ _ _ refl)
     ] in
     rw put.0 (
       omega (arith, c.loop.invariant.0),

@@ -3,7 +3,7 @@ use mathlib.Core.Path.{◌≡◌, sym, ap, ◌∙◌}
 use mathlib.Core.Bool.{not}
 use lib.ListN.{length}
 use native.Mathlib.Omega.{arith}
-use Rattle.read_names.specs.Names.{members_in, is_in}
+use Rattle.read_names.specs.Names.{members_in, is_among}
 use Rattle.read_names.proofs.Unknowns.{unknown_end, unknown_none, unknown_here, unknown_on, not_behind}
 use Rattle.read_names.proofs.unknown.first_unknown.Goals as goal
 
@@ -19,13 +19,13 @@ returns-then-at_end c h =
 pub returns-then-not-is_among : goal.returns-then-not-is_among
 returns-then-not-is_among c h =
     let e = sym c.at_end.ensures ∙ c.if-at_end.false in
-    let n = ap (λ k. is_in k c.args.known.now) (sym c.named-m.ensures.0) ∙ sym c.is_among.ensures in
+    let n = ap (λ o. is_among o c.args.known.now) (sym c.named-m.ensures.0) ∙ sym c.is_among.ensures in
     (sym c.loop.invariant ∙ unknown_here c.args.known.now _ _ (omega arith) e (ap not n ∙ (ap not c.if-not-is_among.true)), not_behind _ _ e)
 
 pub loop-preserved : goal.loop-preserved
 loop-preserved c =
     let e = sym c.at_end.ensures ∙ c.if-at_end.false in
-    let n = ap (λ k. is_in k c.args.known.now) (sym c.named-m.ensures.0) ∙ sym c.is_among.ensures in
+    let n = ap (λ o. is_among o c.args.known.now) (sym c.named-m.ensures.0) ∙ sym c.is_among.ensures in
     let z : length c.args.text.now - (c.loop.counter + 1) ≡ length c.args.text.now - c.loop.counter - 1 = omega arith in
     rw (c.next_after-q.ensures.lands, c.named-m.ensures.1.lands, z)
     (unknown_on c.args.known.now _ _ (omega arith) e (ap not n ∙ (ap not c.if-not-is_among.false)) ∙ c.loop.invariant)
