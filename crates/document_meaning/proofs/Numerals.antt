@@ -13,8 +13,7 @@ use Rattle.json_grammar.specs.Grammar.{Digits}
 use Rattle.json_grammar.specs.Grammar as G
 use Rattle.json_grammar.specs.declared.number.InNumber.{InNumber}
 use Rattle.json_grammar.specs.declared.number.InNumber.TheVariants.{Start, Zero, Whole, Point, Fraction}
-use Rattle.json_grammar.specs.declared.number.DigitStep.{DigitStep}
-use Rattle.json_grammar.specs.declared.number.DigitStep.TheVariants.{Onward}
+use Rattle.std.specs.Prelude.{Option, Some}
 use Rattle.json_grammar.proofs.Rows.{between}
 use Rattle.json_laws.proofs.Tables.{rows_from}
 use Rattle.document.specs.Plain.{whole_digits, fraction_digits, pointed}
@@ -35,35 +34,35 @@ ends : (n : InNumber) → may_end n ≡ true → Goes n []
 ends n e [] h = G.over e
 ends n e (b ∷ k) h = G.stop e h
 
-goes : (n m : InNumber) (b : ℕ) (s : List ℕ) → onward n b ≡ Onward m → Goes m s → Goes n (b ∷ s)
+goes : (n m : InNumber) (b : ℕ) (s : List ℕ) → onward n b ≡ Some m → Goes m s → Goes n (b ∷ s)
 goes n m b s e g k h = G.next e (g k h)
 
 -- Digits.
-first_digit_lem : (d : ℕ) → 1 ≤ d → d ≤ 9 → onward Start (48 + d) ≡ Onward Whole
+first_digit_lem : (d : ℕ) → 1 ≤ d → d ≤ 9 → onward Start (48 + d) ≡ Some Whole
 unfolding onward look
-first_digit_lem d p q = sym (between 49 58 DigitStep (48 + d) (Onward Whole) (rows_from 0 (onward Start) (45 ∷ 46 ∷ 48 ∷ 49 ∷ 58 ∷ [])) (omega arith) (omega arith) refl)
+first_digit_lem d p q = sym (between 49 58 (Option InNumber) (48 + d) (Some Whole) (rows_from 0 (onward Start) (45 ∷ 46 ∷ 48 ∷ 49 ∷ 58 ∷ [])) (omega arith) (omega arith) refl)
 
-digit_more : (d : ℕ) → d ≤ 9 → onward Whole (48 + d) ≡ Onward Whole
+digit_more : (d : ℕ) → d ≤ 9 → onward Whole (48 + d) ≡ Some Whole
 unfolding onward look
-digit_more d q = sym (between 48 58 DigitStep (48 + d) (Onward Whole) (rows_from 0 (onward Whole) (46 ∷ 47 ∷ 48 ∷ 58 ∷ 69 ∷ 70 ∷ 101 ∷ 102 ∷ [])) (omega arith) (omega arith) refl)
+digit_more d q = sym (between 48 58 (Option InNumber) (48 + d) (Some Whole) (rows_from 0 (onward Whole) (46 ∷ 47 ∷ 48 ∷ 58 ∷ 69 ∷ 70 ∷ 101 ∷ 102 ∷ [])) (omega arith) (omega arith) refl)
 
-digit_behind : (d : ℕ) → d ≤ 9 → onward Point (48 + d) ≡ Onward Fraction
+digit_behind : (d : ℕ) → d ≤ 9 → onward Point (48 + d) ≡ Some Fraction
 unfolding onward look
-digit_behind d q = sym (between 48 58 DigitStep (48 + d) (Onward Fraction) (rows_from 0 (onward Point) (48 ∷ 58 ∷ [])) (omega arith) (omega arith) refl)
+digit_behind d q = sym (between 48 58 (Option InNumber) (48 + d) (Some Fraction) (rows_from 0 (onward Point) (48 ∷ 58 ∷ [])) (omega arith) (omega arith) refl)
 
-digit_further : (d : ℕ) → d ≤ 9 → onward Fraction (48 + d) ≡ Onward Fraction
+digit_further : (d : ℕ) → d ≤ 9 → onward Fraction (48 + d) ≡ Some Fraction
 unfolding onward look
-digit_further d q = sym (between 48 58 DigitStep (48 + d) (Onward Fraction) (rows_from 0 (onward Fraction) (48 ∷ 58 ∷ 69 ∷ 70 ∷ 101 ∷ 102 ∷ [])) (omega arith) (omega arith) refl)
+digit_further d q = sym (between 48 58 (Option InNumber) (48 + d) (Some Fraction) (rows_from 0 (onward Fraction) (48 ∷ 58 ∷ 69 ∷ 70 ∷ 101 ∷ 102 ∷ [])) (omega arith) (omega arith) refl)
 
-a_zero : onward Start 48 ≡ Onward Zero
+a_zero : onward Start 48 ≡ Some Zero
 unfolding onward look
 a_zero = refl
 
-point_whole : onward Whole 46 ≡ Onward Point
+point_whole : onward Whole 46 ≡ Some Point
 unfolding onward look
 point_whole = refl
 
-point_zero : onward Zero 46 ≡ Onward Point
+point_zero : onward Zero 46 ≡ Some Point
 unfolding onward look
 point_zero = refl
 
@@ -99,7 +98,7 @@ fraction_goes n h e = go (eqb n 0) e (falls n h)
     go false f l = goes Point Fraction (48 + n / 100000) (fraction_digits 5 10000 (n % 100000)) (digit_behind (n / 100000) l.0)
         (fraction_holds (λ s. Goes Fraction s) (λ d s i g. goes Fraction Fraction (48 + d) s (digit_further d i) g) (ends Fraction refl) 5 10000 (n % 100000) l.1)
 
-module _ (m : InNumber) (may : may_end m ≡ true) (on : onward m 46 ≡ Onward Point) where
+module _ (m : InNumber) (may : may_end m ≡ true) (on : onward m 46 ≡ Some Point) where
   pointed_goes : (n : ℕ) → n ≤ 999999 → Goes m (pointed n)
   pointed_goes n h = go (eqb n 0) refl
     where
