@@ -15,6 +15,8 @@ pub(crate) struct Member {
     pub value: usize,
 }
 
+// Names with escapes or letters beyond ASCII are rare.
+#[cold]
 fn named_decoded(text: &[u8], quote: usize) -> Member
     ensures { (result.name ≡ name_of (decoded (drop quote text.now))) × Moves value_of text.now quote result.value }
 {

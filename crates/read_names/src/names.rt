@@ -42,9 +42,9 @@ pub enum Name {
 }
 
 // How many there are.
-pub(crate) const NAMES: usize = 33;
+pub(crate) const NAMES: usize = Name::Moa as usize + 1;
 
-// Of at most seven bytes.
+// Of at most seven bytes: all in one number, since each member's name is looked for here, and so none is compared byte by byte.
 #[tactic(auto, unfolding(crate::specs::Names::short_name))]
 fn short_name(head: u64) -> Option<Name>
     ensures { result ≡ short_name head }

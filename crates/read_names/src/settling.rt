@@ -42,11 +42,8 @@ fn settle_many(text: &[u8], at: usize) -> Result<Object, Twice>
         match table::look_up(text, q, seed, &table) {
             Found::Stands => return Err(Twice(q)),
             Found::Free(i) => table[i] = q as u16 + 1,
-            Found::Nowhere => {
-                if stood_before(text, at, object.members, q) {
-                    return Err(Twice(q));
-                }
-            }
+            Found::Nowhere if stood_before(text, at, object.members, q) => return Err(Twice(q)),
+            Found::Nowhere => {}
         }
         let m = member::named(text, q);
         if let Some(name) = m.name {

@@ -4,14 +4,14 @@ ghost use Rattle.read_names.specs.Names.{number_of, place_of};
 
 use crate::names::{NAMES, Name};
 
-// By the names' numbers, 0 where there is none: no value stands there, and an Option would take twice the room.
+// By the names' numbers, 0 where there is none: no value stands there, and Options would take twice the room in the frames.
 #[derive(Clone, Copy)]
 pub struct Slots {
     places: [usize; NAMES],
 }
 
 impl Slots {
-    pub fn none() -> Slots
+    pub(crate) fn none() -> Slots
         ensures { result.places ≡ replicate 33 0 }
     {
         Slots { places: [0; NAMES] }

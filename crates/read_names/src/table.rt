@@ -6,7 +6,7 @@ ghost use Rattle.read_names.specs.Names.{hash_of, seed_of, first_slot, Sought};
 use crate::taking;
 use crate::taking::Takes;
 
-// The slots: 0 where there is none, else the name's place and one more.
+// The slots: 0 where there is none, else the name's place and one more, in the two bytes of a slot, since there are many in a frame.
 pub(crate) const TABLE: usize = 8192;
 
 // A place from here on has no room in a slot. Document 01's texts are at most half as long, though the run that one begins may be longer.

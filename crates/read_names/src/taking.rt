@@ -8,6 +8,7 @@ use json_decode::Pieces;
 use json_scan::string as spelled;
 
 pub(crate) trait Takes: Copy {
+    // what it was, some bytes, and what it is behind them
     ghost took: { Self → List ℕ → Self → Type 0 };
 
     fn with(self, b: u8) -> Self

@@ -26,8 +26,8 @@ returns-in-Stands c p ms a =
     let t = c.loop.invariant.1 p ms a in
     settled_twice t.settling (sym c.at_end.ensures ∙ c.if-at_end.false) (tabled_twice t c.in-Stands.ensures)
 
-pub returns-then-stood_before : goal.returns-then-stood_before
-returns-then-stood_before c p ms a =
+pub returns-in-Nowhere : goal.returns-in-Nowhere
+returns-in-Nowhere c p ms a =
     let t = c.loop.invariant.1 p ms a in
     settled_twice t.settling (sym c.at_end.ensures ∙ c.if-at_end.false) (before_is t (sym c.if-stood_before.true ∙ c.stood_before.ensures))
 
