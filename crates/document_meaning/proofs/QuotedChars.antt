@@ -7,6 +7,7 @@ use native.Mathlib.Omega.{arith}
 use borrow.Author.Tests.{lt-ltb, le-ltb}
 use Rattle.json_grammar.specs.Rows.{Rows, else, below, look}
 use Rattle.json_grammar.specs.Byte.{is_tail, is_hex, is_d, digit, utf8}
+use Rattle.std.specs.Prelude.{Some}
 use Rattle.json_grammar.specs.String.{lead, letter}
 use Rattle.json_grammar.specs.Grammar.{Char, Chars, four}
 use Rattle.json_grammar.specs.Grammar as G
@@ -60,7 +61,7 @@ control_char b k h =
     subst (λ (u : List ℕ). Char u (control b k) k) (ap utf8 (control_counts b h) ∙ one_byte b h) (G.unit refl refl refl (hex_is (b / 16) (omega arith)) (hex_is (b % 16) (omega arith)))
 
 -- A letter behind a backslash, and a byte that is spelled as it is.
-letter_char : (b m e : ℕ) (k : List ℕ) → b ≡ m → letter e ≡ Means m → Char (b ∷ []) (92 ∷ e ∷ k) k
+letter_char : (b m e : ℕ) (k : List ℕ) → b ≡ m → letter e ≡ Some (Means m) → Char (b ∷ []) (92 ∷ e ∷ k) k
 letter_char b m e k h l = subst (λ (n : ℕ). Char (n ∷ []) (92 ∷ e ∷ k) k) (sym h) (G.short l)
 
 abbrev lead_rows : Rows Lead

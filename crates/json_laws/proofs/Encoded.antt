@@ -10,7 +10,6 @@ use Rattle.json_grammar.specs.Byte.{is_tail}
 use Rattle.json_grammar.specs.String.{lead, letter}
 use Rattle.json_grammar.specs.declared.string.Lead.{Lead}
 use Rattle.json_grammar.specs.declared.string.Lead.TheVariants.{Control, Ascii, Quote, Backslash, Stray, Two, E0, Three, Ed, F0, Four, F4}
-use Rattle.std.specs.Prelude.{Option, Some, None}
 use Rattle.json_grammar.specs.declared.string.Letter.{Letter}
 use Rattle.json_grammar.specs.declared.string.Letter.TheVariants.{Means, Unicode}
 use Rattle.json_grammar.specs.Grammar as G

@@ -18,13 +18,12 @@ use Rattle.json_grammar.specs.declared.string.CharStep.{CharStep}
 use Rattle.json_grammar.specs.declared.string.CharStep.TheVariants.{Goes, Closes, Refuses}
 use Rattle.json_grammar.specs.declared.number.InNumber.{InNumber}
 use Rattle.json_grammar.specs.declared.number.InNumber.TheVariants.{Start, Minus, Zero, Whole, Point, Fraction, Mark, Sign, Power}
-use Rattle.std.specs.Prelude.{Option}
-use Rattle.std.specs.Prelude as O
+use Rattle.std.specs.Prelude.{Option, Some, None}
 use Rattle.json_grammar.specs.Grammar.{Blanks, here, blank, close, Digits, over, stop, next, Value, an_empty_object, an_object, an_empty_list, a_list, a_string, a_number, a_true, a_false, a_null, first, Behind, bracket, next_element, name, Follows, brace, next_member}
 use Rattle.json_grammar.specs.Walk as W
 use Rattle.json_grammar.specs.Walk.{Frame, Mode, step, Next, wrong, deep, ended, go}
 use Rattle.json_laws.proofs.Bytes.{blank_not_numeric}
-use Rattle.json_laws.proofs.Left.{Some, Left, left_before, closing}
+use Rattle.json_laws.proofs.Left.{AnyChars, Left, left_before, closing}
 
 -- Behind a value: what closes the brackets k, and behind the last of them blanks, to r.
 abbrev pub Rest : List Frame → List ℕ → List ℕ → Type 0
@@ -44,7 +43,7 @@ abbrev FitsColon : List Frame → List ℕ → List ℕ → Type 0
 FitsColon k s r = (c : List ℕ) × Blanks s (58 ∷ c) × FitsValue k c r
 
 abbrev FitsName : List Frame → List ℕ → List ℕ → Type 0
-FitsName k s r = (a : List ℕ) × (m : List ℕ) × Blanks s (34 ∷ a) × Some a m × FitsColon k m r
+FitsName k s r = (a : List ℕ) × (m : List ℕ) × Blanks s (34 ∷ a) × AnyChars a m × FitsColon k m r
 
 abbrev pub Fits : Mode → List Frame → List ℕ → List ℕ → Type 0
 Fits W.top k s r = (p : Place) × (ms : Members) × (a : List ℕ) × (m : List ℕ) × Blanks s a × Value (object p ms) a m × Rest k m r
@@ -100,8 +99,8 @@ module _ (b : ℕ) (k : List Frame) (s r : List ℕ) where
   object_here e h = rw e (object_of k s r (opened_object e (ltb (length k) 20) h))
 
   number_here : (x : Option InNumber) → onward Start b ≡ x → FitsNext b k (W.digits x k) s r → FitsValue k (b ∷ s) r
-  number_here (O.Some n) e h = (number (b ∷ s) (b ∷ h.0), b ∷ s, h.1, here, a_number (next e h.2), h.3)
-  number_here O.None e h = absurd h
+  number_here (Some n) e h = (number (b ∷ s) (b ∷ h.0), b ∷ s, h.1, here, a_number (next e h.2), h.3)
+  number_here None e h = absurd h
 
   begin_fits : FitsNext b k (W.begin b k) s r → FitsValue k (b ∷ s) r
   begin_fits =
@@ -180,8 +179,8 @@ behind_fits b (W.an_object ∷ k) s r =
     either b l s r (eqb b 125) _ _ (λ e h. rw (eqb-true b 125 e) ((no_member, 125 ∷ s, s, here, brace, shut_fits b l l s r h), refl)) λ _ h. absurd h
 
 digits_fit : (b : ℕ) (k : List Frame) (s r : List ℕ) (n : InNumber) (x : Option InNumber) → onward n b ≡ x → FitsNext b k (W.step_digits n x b k) s r → Fits (W.in_number n) k (b ∷ s) r
-digits_fit b k s r n (O.Some m) e = λ h. (b ∷ h.0, h.1, next e h.2, h.3)
-digits_fit b k s r n O.None e =
+digits_fit b k s r n (Some m) e = λ h. (b ∷ h.0, h.1, next e h.2, h.3)
+digits_fit b k s r n None e =
     either b k s r (may_end n) _ _ (λ m h. let f = behind_fits b k s r h in ([], b ∷ s, stop m f.1, f.0)) λ _ h. absurd h
 
 word_fits : (b : ℕ) (k : List Frame) (s r w : List ℕ) → FitsNext b k (W.step_word w b k) s r → Fits (W.in_word w) k (b ∷ s) r

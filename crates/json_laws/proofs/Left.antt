@@ -6,12 +6,11 @@ use mathlib.Core.Logic.{◌⊎◌, inl, inr}
 use mathlib.Core.Bool.{Bool, true, false, cond}
 use lib.Dec.{eqb}
 use borrow.Author.Tests.{eqb-true}
+use Rattle.std.specs.Prelude.{Option, Some, None}
 use Rattle.json_grammar.specs.Byte.{is_hex, is_d, is_to_7, is_8_to_b, is_c_to_f, is_tail, within}
 use Rattle.json_grammar.specs.String.{lead, letter, after, after_lead, after_letter, go_if}
 use Rattle.json_grammar.specs.declared.string.Lead.{Lead}
 use Rattle.json_grammar.specs.declared.string.Lead.TheVariants.{Control, Ascii, Quote, Backslash, Stray, Two, E0, Three, Ed, F0, Four, F4}
-use Rattle.std.specs.Prelude as O
-use Rattle.std.specs.Prelude.{Option}
 use Rattle.json_grammar.specs.declared.string.Letter.{Letter}
 use Rattle.json_grammar.specs.declared.string.Letter.TheVariants.{Means, Unicode}
 use Rattle.json_grammar.specs.declared.string.InString.{InString}
@@ -22,12 +21,12 @@ use Rattle.json_grammar.specs.Grammar.{Char, ascii, two, three, three_e0, three_
 use Rattle.json_laws.proofs.Bytes.{quote_is, backslash_is, unicode_is}
 
 -- The characters of a string, whatever they are.
-abbrev pub Some : List ℕ → List ℕ → Type 0
-Some s r = (cs : List ℕ) × Chars cs s r
+abbrev pub AnyChars : List ℕ → List ℕ → Type 0
+AnyChars s r = (cs : List ℕ) × Chars cs s r
 
 -- Bytes that pass these tests, and then characters.
 pub data Then : List (ℕ → Bool) → List ℕ → List ℕ → Type 0 where
-  plain : {s r : List ℕ} → Some s r → Then [] s r
+  plain : {s r : List ℕ} → AnyChars s r → Then [] s r
   byte : {t : ℕ → Bool} {ts : List (ℕ → Bool)} {b : ℕ} {s r : List ℕ} → t b ≡ true → Then ts s r → Then (t ∷ ts) (b ∷ s) r
 
 abbrev is92 : ℕ → Bool
@@ -51,11 +50,11 @@ pub data Units : List ℕ → List ℕ → Type 0 where
 
 -- Behind a backslash.
 pub data Escaped : List ℕ → List ℕ → Type 0 where
-  means : {e m : ℕ} {s r : List ℕ} → letter e ≡ O.Some (Means m) → Some s r → Escaped (e ∷ s) r
+  means : {e m : ℕ} {s r : List ℕ} → letter e ≡ Some (Means m) → AnyChars s r → Escaped (e ∷ s) r
   unicode : {s r : List ℕ} → Units s r → Escaped (117 ∷ s) r
 
 abbrev pub Left : InString → List ℕ → List ℕ → Type 0
-Left Plain s r = Some s r
+Left Plain s r = AnyChars s r
 Left Escape s r = Escaped s r
 Left AUnit s r = Units s r
 Left UnitD s r = AfterD s r
@@ -81,49 +80,49 @@ LeftAfter (Goes n) s r = Left n s r
 LeftAfter Closes s r = s ≡ r
 LeftAfter Refuses s r = ⊥
 
-more : {u s m r : List ℕ} → Char u s m → Some m r → Some s r
+more : {u s m r : List ℕ} → Char u s m → AnyChars m r → AnyChars s r
 more {u} c h = (u ++ h.0, char c h.1 refl)
 
 -- Behind each first byte of a character.
-after_two : {b : ℕ} {s r : List ℕ} → lead b ≡ Two → Then (is_tail ∷ []) s r → Some (b ∷ s) r
+after_two : {b : ℕ} {s r : List ℕ} → lead b ≡ Two → Then (is_tail ∷ []) s r → AnyChars (b ∷ s) r
 after_two e (byte t (plain h)) = more (two e t) h
 
-after_three : {b : ℕ} {s r : List ℕ} → lead b ≡ Three → Then (is_tail ∷ is_tail ∷ []) s r → Some (b ∷ s) r
+after_three : {b : ℕ} {s r : List ℕ} → lead b ≡ Three → Then (is_tail ∷ is_tail ∷ []) s r → AnyChars (b ∷ s) r
 after_three e (byte t (byte u (plain h))) = more (three e t u) h
 
-after_e0 : {b : ℕ} {s r : List ℕ} → lead b ≡ E0 → Left AfterE0 s r → Some (b ∷ s) r
+after_e0 : {b : ℕ} {s r : List ℕ} → lead b ≡ E0 → Left AfterE0 s r → AnyChars (b ∷ s) r
 after_e0 e (byte t (byte u (plain h))) = more (three_e0 e t u) h
 
-after_ed : {b : ℕ} {s r : List ℕ} → lead b ≡ Ed → Left AfterEd s r → Some (b ∷ s) r
+after_ed : {b : ℕ} {s r : List ℕ} → lead b ≡ Ed → Left AfterEd s r → AnyChars (b ∷ s) r
 after_ed e (byte t (byte u (plain h))) = more (three_ed e t u) h
 
-after_four : {b : ℕ} {s r : List ℕ} → lead b ≡ Four → Left Tail3 s r → Some (b ∷ s) r
+after_four : {b : ℕ} {s r : List ℕ} → lead b ≡ Four → Left Tail3 s r → AnyChars (b ∷ s) r
 after_four e (byte t (byte u (byte v (plain h)))) = more (fourth e t u v) h
 
-after_f0 : {b : ℕ} {s r : List ℕ} → lead b ≡ F0 → Left AfterF0 s r → Some (b ∷ s) r
+after_f0 : {b : ℕ} {s r : List ℕ} → lead b ≡ F0 → Left AfterF0 s r → AnyChars (b ∷ s) r
 after_f0 e (byte t (byte u (byte v (plain h)))) = more (four_f0 e t u v) h
 
-after_f4 : {b : ℕ} {s r : List ℕ} → lead b ≡ F4 → Left AfterF4 s r → Some (b ∷ s) r
+after_f4 : {b : ℕ} {s r : List ℕ} → lead b ≡ F4 → Left AfterF4 s r → AnyChars (b ∷ s) r
 after_f4 e (byte t (byte u (byte v (plain h)))) = more (four_f4 e t u v) h
 
 second_half : {h i j k x y l m n o : ℕ} {s r : List ℕ} → is_d h ≡ true → is_8_to_b i ≡ true → is_hex j ≡ true → is_hex k ≡ true → x ≡ 92 → y ≡ 117
-    → is_d l ≡ true → is_c_to_f m ≡ true → is_hex n ≡ true → is_hex o ≡ true → Some s r → Some (92 ∷ 117 ∷ h ∷ i ∷ j ∷ k ∷ x ∷ y ∷ l ∷ m ∷ n ∷ o ∷ s) r
+    → is_d l ≡ true → is_c_to_f m ≡ true → is_hex n ≡ true → is_hex o ≡ true → AnyChars s r → AnyChars (92 ∷ 117 ∷ h ∷ i ∷ j ∷ k ∷ x ∷ y ∷ l ∷ m ∷ n ∷ o ∷ s) r
 second_half d i j k e f l m n o c = rw (e, f) (more (pair d i j k l m n o) c)
 
-after_d : {h : ℕ} {s r : List ℕ} → is_d h ≡ true → AfterD s r → Some (92 ∷ 117 ∷ h ∷ s) r
+after_d : {h : ℕ} {s r : List ℕ} → is_d h ≡ true → AfterD s r → AnyChars (92 ∷ 117 ∷ h ∷ s) r
 after_d d (inl (byte i (byte j (byte k (plain c))))) = more (unit_d d i j k) c
 after_d d (inr (byte i (byte j (byte k (byte {b = x} e (byte {b = y} f (byte l (byte m (byte n (byte o (plain c)))))))))))
     = second_half d i j k (eqb-true x 92 e) (eqb-true y 117 f) l m n o c
 
-after_u : {s r : List ℕ} → Units s r → Some (92 ∷ 117 ∷ s) r
+after_u : {s r : List ℕ} → Units s r → AnyChars (92 ∷ 117 ∷ s) r
 after_u (no_d d h (byte i (byte j (byte k (plain c))))) = more (unit d h i j k) c
 after_u (with_d d h) = after_d d h
 
-after_backslash : {s r : List ℕ} → Escaped s r → Some (92 ∷ s) r
+after_backslash : {s r : List ℕ} → Escaped s r → AnyChars (92 ∷ s) r
 after_backslash (means e c) = more (short e) c
 after_backslash (unicode h) = after_u h
 
-lead_left : {s r : List ℕ} (b : ℕ) (x : Lead) → lead b ≡ x → LeftAfter (after_lead x) s r → Some (b ∷ s) r
+lead_left : {s r : List ℕ} (b : ℕ) (x : Lead) → lead b ≡ x → LeftAfter (after_lead x) s r → AnyChars (b ∷ s) r
 lead_left b Control e h = absurd h
 lead_left b Ascii e h = more (ascii e) h
 lead_left b Quote e h = rw (quote_is b e, h) ([], close)
@@ -138,9 +137,9 @@ lead_left b Four e h = after_four e h
 lead_left b F4 e h = after_f4 e h
 
 letter_left : {s r : List ℕ} (b : ℕ) (x : Option Letter) → letter b ≡ x → LeftAfter (after_letter x) s r → Escaped (b ∷ s) r
-letter_left b (O.Some (Means m)) e h = means e h
-letter_left b (O.Some Unicode) e h = rw (unicode_is b e) (unicode h)
-letter_left b O.None e h = absurd h
+letter_left b (Some (Means m)) e h = means e h
+letter_left b (Some Unicode) e h = rw (unicode_is b e) (unicode h)
+letter_left b None e h = absurd h
 
 if_left : (n : InString) (s r : List ℕ) {P : Type 0} (t : Bool) → (t ≡ true → Left n s r → P) → LeftAfter (go_if t n) s r → P
 if_left n s r true f h = f refl h
