@@ -49,6 +49,7 @@ fn days_in(text: &[u8], at: usize, most: u64, first: Used) -> Result<Counted, Re
     let mut again = false;
     let mut used = first;
     let mut e = json_move::first_in(text, at);
+    // A list has fewer elements than the text has bytes.
     for _ in 0..text.len() {
         if json_move::at_end(text, e) {
             break;

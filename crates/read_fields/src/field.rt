@@ -132,10 +132,7 @@ pub fn decimal_value(text: &[u8], at: usize, least: u64) -> Result<u64, Refusal>
     ensures { ReadsAt text.now at (decimal least) result }
 {
     let at = of_kind(text, at, Kind::Number)?;
-    match document_numbers::decimal_at(text, at, least) {
-        Ok(millionths) => Ok(millionths),
-        Err(e) => Err(unread(at, e)),
-    }
+    document_numbers::decimal_at(text, at, least).map_err(|e| unread(at, e))
 }
 
 #[tactic(auto, using(crate::proofs::Values::number_missing, crate::proofs::Values::number_needed))]

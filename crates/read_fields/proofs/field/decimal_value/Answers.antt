@@ -1,5 +1,7 @@
 -- A decimal is read, or what stands there is none.
-use Rattle.std.specs.Prelude.{Ok, Err}
+use borrow.Author.Rules.{rules}
+use mathlib.Core.Path.{◌≡◌}
+use Rattle.read_fields.specs.Reading.{millionths_at}
 use Rattle.document.specs.Schema.{decimal}
 use Rattle.read_fields.proofs.Refusals.{raised}
 use Rattle.read_fields.proofs.Values.{number_refused, decimal_reads}
@@ -9,10 +11,7 @@ pub returns-in_err-at : goal.returns-in_err-at
 returns-in_err-at c =
     rw (raised c.from_residual.result c.from_residual.ensures.1) (number_refused c.in_err-at.ensures (decimal c.args.least))
 
-pub returns-in-Ok : goal.returns-in-Ok
-returns-in-Ok c =
-    decimal_reads c.in_ok-at.ensures _ (Ok c.in-Ok.millionths) c.in-Ok.ensures
-
-pub returns-in-Err : goal.returns-in-Err
-returns-in-Err c =
-    rw c.unread.ensures (decimal_reads c.in_ok-at.ensures _ (Err c.in-Err.e) c.in-Err.ensures)
+pub returns : goal.returns
+returns c =
+    let q : c.map_err.result ≡ millionths_at c.in_ok-at.at c.decimal_at.result = search rules in
+    rw q (decimal_reads c.in_ok-at.ensures _ c.decimal_at.result c.decimal_at.ensures)
