@@ -50,7 +50,7 @@ fn application(words: &[u64; WORDS], i: usize, shape: Shape) -> bool
     row(words, i, shape) && dosage(words, i + 1)
 }
 
-// The applications from i on, up to record `end`.
+// The applications from i on, up to record `end`. No plainer by a step_by: an odd record at the end is refused.
 fn applications(words: &[u64; WORDS], i: usize, end: usize, each: Shape) -> bool
     ensures { Decides (ApplicationsAt words.now end each i) result }
 {

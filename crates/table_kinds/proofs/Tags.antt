@@ -1,6 +1,6 @@
 -- The kind of a tag that is known, and the record at a place that lies in the words.
 use Prim.Native.Nat.{ℕ, ◌+◌, ◌≤◌, ◌<◌, ◌%◌}
-use mathlib.Core.Path.{◌≡◌, sym, ap}
+use mathlib.Core.Path.{◌≡◌, sym}
 use mathlib.Core.List.{List}
 use native.Mathlib.Nat.{add-zero}
 use borrow.Author.Tests.{le-leb, lt-leb}
@@ -14,9 +14,6 @@ use Rattle.document.specs.declared.table.Record.{Record}
 use Rattle.table_kinds.specs.Kinds.{kinds, kind_of, record_in, record_at}
 
 module _ (a b c d : ℕ) where
-  pub kind_at : (t tag : ℕ) → tag ≡ t → kind_of t a b c d ≡ kind_of tag a b c d
-  kind_at t tag e = ap (λ (n : ℕ). kind_of n a b c d) (sym e)
-
   -- From the last tag on.
   pub last_kind : (tag : ℕ) → 18 ≤ tag → K.InSegment (a % 256) ≡ kind_of tag a b c d
   unfolding kind_of

@@ -2,11 +2,24 @@
 #![tactic(auto)]
 
 ghost use Rattle.std.specs.Prelude.{◌≡◌, ℕ, ◌≤◌, ◌<◌};
-ghost use Rattle.document.specs.Table.{no_record};
-ghost use Rattle.table_kinds.specs.Kinds.{kind_of, record_at, at_most};
+ghost use Rattle.table_kinds.specs.Kinds.{u8, u32, kind_of, record_at, at_most};
 
 use document::table::{Dosage, Kind, RECORDS, Record, Text, WIDTH};
 
+// What a value's type cannot hold of a word is cut.
+fn low_byte(word: u64) -> u8
+    ensures { result ≡ u8 word }
+{
+    (word % 0x100) as u8
+}
+
+fn low_half(word: u64) -> u32
+    ensures { result ≡ u32 word }
+{
+    (word % 0x100000000) as u32
+}
+
+#[tactic(auto, unfolding(crate::specs::Kinds::kind_of))]
 fn dosage_of(tag: u64, a: u64, b: u64, c: u64, d: u64) -> Dosage
     requires { (12 ≤ tag) × (tag < 15) }
     ensures { Kind.Dosage result ≡ kind_of tag a b c d }
@@ -16,13 +29,14 @@ fn dosage_of(tag: u64, a: u64, b: u64, c: u64, d: u64) -> Dosage
         13 => Dosage::FromTo {
             from: a,
             to: b,
-            unit: (c % 256) as u8,
-            duration: (d % 0x100000000) as u32,
+            unit: low_byte(c),
+            duration: low_half(d),
         },
         _ => Dosage::Range { min: a, max: b },
     }
 }
 
+#[tactic(auto, unfolding(crate::specs::Kinds::kind_of))]
 fn timed_of(tag: u64, a: u64, b: u64) -> Kind
     requires { (6 ≤ tag) × (tag < 12) }
     ensures { (c d : ℕ) → result ≡ kind_of tag a b c d }
@@ -31,56 +45,39 @@ fn timed_of(tag: u64, a: u64, b: u64) -> Kind
         6 => Kind::DosageOnly,
         7 => Kind::Times,
         8 => Kind::DaySegments,
-        9 => Kind::WeekDays {
-            days: (a % 0x100000000) as u32,
-        },
-        10 => Kind::DaysOfMonth {
-            days: (a % 0x100000000) as u32,
-        },
+        9 => Kind::WeekDays { days: low_half(a) },
+        10 => Kind::DaysOfMonth { days: low_half(a) },
         _ => Kind::Interval {
-            duration: (a % 0x100000000) as u32,
-            unit: (b % 256) as u8,
+            duration: low_half(a),
+            unit: low_byte(b),
         },
     }
 }
 
+#[tactic(auto, using(crate::proofs::Tags::last_kind), unfolding(crate::specs::Kinds::kind_of))]
 fn other_of(tag: u64, a: u64, b: u64) -> Kind
     requires { 15 ≤ tag }
     ensures { (c d : ℕ) → result ≡ kind_of tag a b c d }
 {
     match tag {
         15 => Kind::PosologySequence {
-            duration: (a % 0x100000000) as u32,
-            unit: (b % 256) as u8,
+            duration: low_half(a),
+            unit: low_byte(b),
         },
         16 => Kind::Pause {
-            duration: (a % 0x100000000) as u32,
-            unit: (b % 256) as u8,
+            duration: low_half(a),
+            unit: low_byte(b),
         },
         17 => Kind::AtTime {
-            second: (a % 0x100000000) as u32,
+            second: low_half(a),
         },
         _ => Kind::InSegment {
-            segment: (a % 256) as u8,
+            segment: low_byte(a),
         },
     }
 }
 
-fn later_of(tag: u64, a: u64, b: u64, c: u64, d: u64) -> Kind
-    requires { 6 ≤ tag }
-    ensures { result ≡ kind_of tag a b c d }
-{
-    if tag < 12 {
-        return timed_of(tag, a, b);
-    }
-    if tag < 15 {
-        return Kind::Dosage {
-            dosage: dosage_of(tag, a, b, c, d),
-        };
-    }
-    other_of(tag, a, b)
-}
-
+#[tactic(auto, unfolding(crate::specs::Kinds::kind_of))]
 fn kind_of(tag: u64, a: u64, b: u64, c: u64, d: u64) -> Kind
     ensures { result ≡ kind_of tag a b c d }
 {
@@ -100,33 +97,30 @@ fn kind_of(tag: u64, a: u64, b: u64, c: u64, d: u64) -> Kind
         },
         3 => Kind::Single,
         4 => Kind::Cyclic {
-            unit: (a % 256) as u8,
-            duration: (b % 0x100000000) as u32,
-            per_cycle: (c % 0x100000000) as u32,
+            unit: low_byte(a),
+            duration: low_half(b),
+            per_cycle: low_half(c),
         },
         5 => Kind::Sequence,
-        _ => later_of(tag, a, b, c, d),
+        6..=11 => timed_of(tag, a, b),
+        12..=14 => Kind::Dosage {
+            dosage: dosage_of(tag, a, b, c, d),
+        },
+        _ => other_of(tag, a, b),
     }
 }
 
-fn no_record() -> Record
-    ensures { result ≡ no_record }
-{
-    Record {
-        kind: Kind::None,
-        below: 0,
-    }
-}
+const NO_RECORD: Record = Record {
+    kind: Kind::None,
+    below: 0,
+};
 
 // The record of the words at a place; an unused one where there are fewer than a record has.
 pub fn record_at(words: &[u64], at: usize) -> Record
     ensures { result ≡ record_at words.now at }
 {
-    if words.len() < WIDTH {
-        return no_record();
-    }
-    if words.len() - WIDTH < at {
-        return no_record();
+    if words.len() < WIDTH || words.len() - WIDTH < at {
+        return NO_RECORD;
     }
     Record {
         kind: kind_of(
@@ -144,8 +138,5 @@ pub fn record_at(words: &[u64], at: usize) -> Record
 pub fn at_most(count: usize) -> usize
     ensures { result ≡ at_most count }
 {
-    if count <= RECORDS {
-        return count;
-    }
-    RECORDS
+    count.min(RECORDS)
 }
