@@ -16,10 +16,8 @@ fn records_of(words: &[u64; WORDS], count: usize) -> [Record; RECORDS]
         kind: Kind::None,
         below: 0,
     }; RECORDS];
-    let mut i = 0;
-    while i < count {
+    for i in 0..count {
         records[i] = table_kinds::record_at(words, i * WIDTH);
-        i += 1;
     }
     records
 }
@@ -36,11 +34,9 @@ fn text_of(p: Piece) -> Text
 pub fn head_of(h: HeadRead) -> Head
     ensures { result ≡ head_cells h }
 {
-    let from = h.from;
-    let to = h.to;
     Head {
-        from: from,
-        to: to,
+        from: h.from,
+        to: h.to,
         reserve: h.reserve,
         meal: h.meal,
         unit: text_of(h.unit),
@@ -56,7 +52,7 @@ pub fn table_of(h: HeadRead, words: &[u64; WORDS]) -> Table
     let count = table_kinds::at_most(h.used.records);
     Table {
         head: head_of(h),
-        count: count,
+        count,
         text: h.used.text,
         records: records_of(words, count),
     }
@@ -67,18 +63,13 @@ fn lay_records(text: &[u8], words: &[u64; WORDS], count: usize, strings: &mut [u
     requires { count ≤ 64 }
     ensures { strings.new ≡ laid_rows text.now count words.now strings.old }
 {
-    let mut i = 0;
-    while i < count {
+    for i in 0..count {
         let at = i * WIDTH;
         if words[at] == 2 {
-            json_lay::lay(
-                text,
-                words[at + 4] as usize,
-                strings,
-                words[at + 2] as usize,
-            );
+            let quote = words[at + 4] as usize;
+            let start = words[at + 2] as usize;
+            json_lay::lay(text, quote, strings, start);
         }
-        i += 1;
     }
 }
 

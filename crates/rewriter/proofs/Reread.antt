@@ -8,19 +8,21 @@ use lib.Seq.{take_at}
 use Rattle.json_grammar.proofs.Truth.{never}
 use Rattle.document.specs.Posology.{Posology}
 use Rattle.document.specs.Plain.{plain}
-use Rattle.document.specs.Values.{ends, number}
+use Rattle.document.specs.Values.{ends, refusal_values}
 use Rattle.document.specs.Answer as R
 use Rattle.document.specs.Answer.{Read, read}
 use Rattle.document.specs.Write.{write_values, buffer_after, in_greatest_room}
-use Rattle.document.specs.declared.table.Writing.TheVariants as W
+use Rattle.std.specs.Prelude.{Ok, Err}
+use Rattle.document.specs.Refusals.{number_of}
+use Rattle.document.specs.declared.refusal.Refusal.{Refusal}
 use Rattle.rewriter.specs.Rewriting.{plain_of_read, rewritten, Rewrites}
 
-pub read_refused : {purpose : ℕ} {text before after : List ℕ} {m place : ℕ} → Rewrites purpose text before (W.Refused m place) after
-    → read (in_greatest_room purpose) text ≡ R.refused m place
+pub read_refused : {purpose : ℕ} {text before after : List ℕ} {why : Refusal} → Rewrites purpose text before (Err why) after
+    → read (in_greatest_room purpose) text ≡ R.refused (number_of why.0) why.1
 unfolding rewritten
-read_refused {purpose} {text} {m = m} {place = place} h = go (read (in_greatest_room purpose) text) h.answer
+read_refused {purpose} {text} {why = why} h = go (read (in_greatest_room purpose) text) h.answer
   where
-    go : (x : Read) → number m place ≡ write_values (plain_of_read x) → x ≡ R.refused m place
+    go : (x : Read) → refusal_values why ≡ write_values (plain_of_read x) → x ≡ R.refused (number_of why.0) why.1
     go (R.taken p) e = never (cc)
     go (R.refused k q) e = cc
 
@@ -30,7 +32,7 @@ pub record ReadAs (purpose : ℕ) (text after : List ℕ) (n : ℕ) : Type 0 whe
   pub first : take n after ≡ plain posology
   pub inside : n ≤ length after
 
-pub read_taken : {purpose n : ℕ} {text before after : List ℕ} → Rewrites purpose text before (W.Written n) after
+pub read_taken : {purpose n : ℕ} {text before after : List ℕ} → Rewrites purpose text before (Ok n) after
     → ReadAs purpose text after n
 unfolding rewritten
 read_taken {purpose} {n} {text} {before} {after} h = go (read (in_greatest_room purpose) text) refl h.answer h.left

@@ -15,16 +15,14 @@ use Rattle.read_table.proofs.records_of.Goals as goal
 pub loop-i-init : goal.loop-i-init
 unfolding groups
 loop-i-init c =
-    (omega arith, refl)
+    refl
 
 pub loop-i-preserved : goal.loop-i-preserved
-loop-i-preserved c = (
-  omega arith,
-  ap (λ (rs : List Record). set rs c.loop-i.i c.record_at.result) c.loop-i.invariant.1
-      ∙ groups_set width record_in 64 c.loop-i.i c.args.words.now no_record c.record_at.result (omega arith) (c.record_at.ensures ∙ record_inside c.args.words.now (c.loop-i.i * width) (omega arith)),
-)
+loop-i-preserved c =
+  ap (λ (rs : List Record). set rs c.loop-i.i c.record_at.result) c.loop-i.invariant
+      ∙ groups_set width record_in 64 c.loop-i.i c.args.words.now no_record c.record_at.result (omega arith) (c.record_at.ensures ∙ record_inside c.args.words.now (c.loop-i.i * width) (omega arith))
 
 pub returns : goal.returns
 returns c =
     let all : c.loop-i.i ≡ c.args.count = omega arith in
-    c.loop-i.invariant.1 ∙ ap (λ (n : ℕ). records_of n c.args.words.now ++ replicate (64 - n) no_record) all
+    c.loop-i.invariant ∙ ap (λ (n : ℕ). records_of n c.args.words.now ++ replicate (64 - n) no_record) all

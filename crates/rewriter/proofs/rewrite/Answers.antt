@@ -4,12 +4,13 @@ use mathlib.Core.List.{[]}
 use native.Mathlib.Omega.{arith}
 use lib.ListN.{length-replicate}
 use Rattle.rewriter.proofs.Rewritten.{tidied_length, refused_rewritten, taken_rewritten}
+use Rattle.read_fields.proofs.Refusals.{raised}
 use Rattle.rewriter.proofs.rewrite.Goals as goal
 
-pub returns-then-h : goal.returns-then-h
-returns-then-h c =
-    refused_rewritten c.args.purpose c.args.text.now _ _ _ _ (length-replicate {A = ℕ} 2048 0) c.read_words-h.ensures
-    c.args.out.now c.if-h.true
+pub returns-in_err-h : goal.returns-in_err-h
+returns-in_err-h c =
+    rw (raised c.from_residual.result c.from_residual.ensures.1)
+    (refused_rewritten c.args.purpose c.args.text.now _ _ _ (length-replicate {A = ℕ} 2048 0) c.in_err-h.field-0.0 c.in_err-h.ensures c.args.out.now)
 
 pub slice_bounds-put_posology-end-2 : goal.slice_bounds-put_posology-end-2
 slice_bounds-put_posology-end-2 c =
@@ -17,5 +18,5 @@ slice_bounds-put_posology-end-2 c =
 
 pub returns : goal.returns
 returns c =
-    taken_rewritten c.args.purpose c.args.text.now _ _ _ _ (length-replicate {A = ℕ} 2048 0) c.read_words-h.ensures
-    c.if-h.false c.tidy.ensures c.head_of.ensures (omega (arith, c.well_formed)) (λ d w p. c.put_posology-n.ensures d [] w p)
+    taken_rewritten c.args.purpose c.args.text.now _ _ _ (length-replicate {A = ℕ} 2048 0) c.in_ok-h.h c.in_ok-h.ensures
+    c.tidy.ensures c.head_of.ensures (omega (arith, c.well_formed)) (λ d w p. c.put_posology-n.ensures d [] w p)
