@@ -1,32 +1,31 @@
--- A number's eight bytes one by one, as straight-line code stores and reads them.
-use Prim.Native.Nat.{ℕ, suc, ◌+◌, ◌*◌, ◌/◌, ◌%◌}
-use mathlib.Core.Path.{◌≡◌}
-use mathlib.Core.List.{List, []}
+-- A number's eight bytes one by one, as they are stored and read.
+use Prim.Native.Nat.{ℕ, ◌+◌, ◌*◌, ◌≤◌}
+use mathlib.Core.Path.{◌≡◌, refl, sym, ◌∙◌}
+use mathlib.Core.List.{List, [], append_assoc}
 use native.Mathlib.Omega.{arith}
 use native.Mathlib.Nat.{div-div-eq-div-mul}
-use lib.ListN.{drop, get_or, set}
-use lib.Seq.{sets}
+use lib.ListN.{length, take, drop, get_or}
+use lib.Seq.{sets, sets-eq}
+use borrow.Rule.Slice.PartMut.{put_mid}
+use Rattle.std.specs.Int.{w64, to_le_bytes}
+use Rattle.std.proofs.lemmas.Slice.{put_mid-paste}
+use Rattle.std.proofs.lemmas.List.Edits.{paste_all}
 use Rattle.c_numbers.specs.Eights.{bytes_of, number_in}
-use Rattle.c_numbers.proofs.Bytes.{four_first, no_bytes}
+use Rattle.c_numbers.proofs.Bytes.{four_first, no_bytes, bytes_length}
 
--- Each byte stands at its place, and is the rest of its own quotient.
-pub eight_stores : (x : ℕ) (l : List ℕ) (at : ℕ) →
-    let half : List ℕ = set (set (set (set l at (x % 256)) (at + 1) (x / 0x100 % 256)) (at + 2) (x / 0x10000 % 256)) (at + 3) (x / 0x1000000 % 256) in
-    set
-    (set (set (set half (at + 4) (x / 0x100000000 % 256)) (at + 5) (x / 0x10000000000 % 256)) (at + 6) (x / 0x1000000000000 % 256))
-    (at + 7)
-    (x / 0x100000000000000 % 256)
-    ≡ sets l at (bytes_of 8 x [])
+le_eight : (x : ℕ) → to_le_bytes w64 x ≡ bytes_of 8 x []
 unfolding bytes_of
-eight_stores x l at =
-    let one : at + 1 ≡ suc at = omega arith in
-    let two : at + 2 ≡ suc (suc at) = omega arith in
-    let three : at + 3 ≡ suc (suc (suc at)) = omega arith in
-    let four : at + 4 ≡ suc (suc (suc (suc at))) = omega arith in
-    let five : at + 5 ≡ suc (suc (suc (suc (suc at)))) = omega arith in
-    let six : at + 6 ≡ suc (suc (suc (suc (suc (suc at))))) = omega arith in
-    let seven : at + 7 ≡ suc (suc (suc (suc (suc (suc (suc at)))))) = omega arith in
-    simp (one, two, three, four, five, six, seven, div-div-eq-div-mul)
+le_eight x = simp div-div-eq-div-mul refl
+
+-- Eight bytes copied over a part of the others.
+pub eight_copied : (x at : ℕ) (l : List ℕ) {n : ℕ} {copied : List ℕ} → copied ≡ to_le_bytes w64 x → n ≡ 8 → at + 8 ≤ length l → put_mid at n l copied ≡ sets l at (bytes_of 8 x [])
+eight_copied x at l {n} {copied} e f fits =
+    let bytes = bytes_of 8 x [] in
+    let size : length bytes ≡ 8 = bytes_length 8 x [] in
+    put_mid-paste at n l copied bytes (length bytes) (e ∙ le_eight x) (size ∙ sym f) refl
+    ∙ paste_all l at bytes (length bytes) refl
+    ∙ sym (append_assoc (take at l) bytes (drop (at + length bytes) l))
+    ∙ sym (sets-eq bytes l at (omega arith))
 
 -- The number of eight bytes is their sum, each by its factor.
 pub eight_first : (at : ℕ) (bytes : List ℕ)

@@ -1,7 +1,11 @@
--- The number of the eight bytes at a place.
-use mathlib.Core.Path.{sym}
+use mathlib.Core.Path.{◌≡◌, sym}
+use Prim.Native.Nat.{◌-◌}
 use native.Mathlib.Omega.{arith}
-use Rattle.c_numbers.proofs.Bytes.{four_first, no_bytes, number_past}
+use lib.ListN.{length, take, drop}
+use Rattle.std.proofs.lemmas.List.{take_rest}
+use Rattle.c_numbers.specs.Eights.{number_in}
+use Rattle.c_numbers.proofs.Bytes.{number_past}
+use Rattle.c_numbers.proofs.Straight.{eight_first}
 use Rattle.c_numbers.proofs.number_at.Goals as goal
 
 pub returns-then-bytes-at : goal.returns-then-bytes-at
@@ -10,7 +14,6 @@ returns-then-bytes-at c =
 
 pub returns : goal.returns
 returns c =
-    let s = c in
-    let low = four_first 0 s.args.at s.args.bytes.now in
-    let all = four_first 4 s.args.at s.args.bytes.now in
-    omega (arith, no_bytes s.args.at s.args.bytes.now)
+    let rest = take (length c.args.bytes.now - c.args.at) (drop c.args.at c.args.bytes.now) in
+    let e : c.from_le_bytes.result ≡ number_in 8 rest = omega (arith, c.from_le_bytes.ensures, eight_first 0 rest) in
+    rw (take_rest c.args.bytes.now c.args.at) at e
