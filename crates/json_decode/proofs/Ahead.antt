@@ -16,10 +16,9 @@ use borrow.Author.Tests.{lt-ltb, le-ltb}
 use Rattle.json_grammar.specs.String.{chars, after, given, gather}
 use Rattle.json_scan.proofs.Strings.{quote_closes}
 use Rattle.json_move.specs.Read.{decoded}
-use Rattle.json_decode.specs.Characters.{plain_from, left, bytes_ahead, Steps, GivesBytes}
+use Rattle.json_decode.specs.Characters.{plain_from, left, Steps, GivesBytes}
 use Rattle.json_decode.specs.declared.Spot.{Spot}
 use Rattle.json_decode.specs.declared.NextBytes.{NextBytes}
-use Rattle.json_decode.specs.declared.Cursor.{Cursor}
 use Rattle.json_grammar.specs.declared.string.InString.{InString}
 use Rattle.json_grammar.specs.declared.string.InString.TheVariants.{Plain}
 use Rattle.json_grammar.specs.declared.string.CharStep.TheVariants.{Goes, Closes, Refuses}
@@ -123,20 +122,3 @@ module _ {text : List ℕ} {t : Spot} {r : NextBytes} (g : Steps text t r) where
 module _ {text : List ℕ} {s : Spot} {r : NextBytes} where
   pub left_length : GivesBytes text s r → length (left text s) ≡ length r.out + length (left text r.spot)
   left_length g = omega (arith, ap length g.bytes, length-append r.out (left text r.spot))
-
--- ---- a cursor
-module _ (c : Cursor) where
-  -- all that was decoded is given out
-  pub ahead_over : length c.out ≤ c.given → bytes_ahead c ≡ left c.text.now c.spot
-  unfolding bytes_ahead
-  ahead_over h = rw (drop_of_length-le c.out h)
-
-  -- one of the bytes that were decoded
-  pub ahead_one : (b : ℕ) → c.given < length c.out → b ≡ get_or c.out c.given b → bytes_ahead c ≡ b ∷ bytes_ahead (record { text = c.text; spot = c.spot; out = c.out; given = c.given + 1 })
-  unfolding bytes_ahead
-  ahead_one b h e = rw (drop-cons c.out c.given b h, ← e, add-one)
-
-  pub ahead_next : {g : NextBytes} → bytes_ahead c ≡ left c.text.now c.spot → GivesBytes c.text.now c.spot g
-      → bytes_ahead c ≡ get_or g.out 0 0 ∷ bytes_ahead (record { text = c.text; spot = g.spot; out = g.out; given = 1 })
-  unfolding bytes_ahead
-  ahead_next {g} e b = e ∙ b.bytes ∙ ap (λ l. l ++ left c.text.now g.spot) (drop-cons g.out 0 0 b.some)

@@ -3,16 +3,19 @@ use Prim.Native.Nat.{ℕ, ◌+◌, ◌-◌, ◌<◌, ◌≤◌}
 use mathlib.Core.Path.{◌≡◌, refl, sym, ap, ◌∙◌}
 use mathlib.Core.Bool.{true}
 use mathlib.Core.List.{List, [], ◌∷◌, ◌++◌, append_assoc}
+use Rattle.std.proofs.lemmas.Slice.{between_is}
 use lib.ListN.{length, get_or, take, drop, length-append, length-take, length-drop}
 use lib.Seq.{slice, slice_empty, drop-cons, take-add, drop-append-le, length-take-le}
 use native.Mathlib.Omega.{arith}
-use Rattle.json_grammar.specs.String.{chars, after, given, gather, is_ascii}
+use Rattle.json_grammar.specs.String.{chars, after, given, gather, is_ascii, point}
 use Rattle.json_grammar.specs.declared.string.InString.TheVariants.{Plain}
-use Rattle.json_scan.specs.Chars.{Char}
+use Rattle.json_scan.specs.Chars.{Char, Escapes, width_of}
+use Rattle.json_scan.specs.declared.escape.Escape.{Escape}
+use Rattle.json_scan.specs.declared.escape.Escape.TheVariants.{Letter, Digits}
 use Rattle.json_scan.proofs.Strings.{ascii_lead}
-use Rattle.json_decode.specs.Characters.{plain_from, left, spot_at, behind_run, Run, GivesBytes}
+use Rattle.json_decode.specs.Characters.{plain_from, left, spot_at, behind_run, meant_by, Run}
 use Rattle.json_decode.specs.declared.Spot.{Spot}
-use Rattle.json_decode.specs.declared.NextBytes.{NextBytes}
+use Rattle.json_decode.proofs.Lengths.{utf8_size}
 use Rattle.json_decode.proofs.Ascii.{ascii_from}
 
 -- Where a character may stand, digits that were gathered do not count.
@@ -82,6 +85,23 @@ run_at {text} {i} s e r = record {
 }
 
 -- ---- an escape
-pub gives_char : {text : List ℕ} {s : Spot} {n : ℕ} {bytes : List ℕ} → s.state ≡ Plain → Char text s.at n bytes → (r : NextBytes)
-    → r.out ≡ bytes → 0 < length bytes → left text r.spot ≡ plain_from text (s.at + n) → GivesBytes text s r
-gives_char {text} {s} e c r o p l = record { bytes = rw (o, l) (left_any text s e ∙ char_from c); some = rw o p }
+pub escape_char : {text : List ℕ} {at : ℕ} (e : Escape) → Escapes text at e → Char text at (width_of e) (meant_by e)
+escape_char (Letter m) c = c
+escape_char (Digits v n) c = c
+
+-- none stands for nothing
+pub meant_some : (e : Escape) → 0 < length (meant_by e)
+meant_some (Letter m) = omega arith
+meant_some (Digits v n) = (utf8_size (point v)).0
+
+pub escape_piece : (text : List ℕ) (s : Spot) (e : Escape) (w : ℕ) (out rest : List ℕ) → s.state ≡ Plain → Escapes text s.at e → w ≡ width_of e
+    → out ≡ meant_by e → rest ≡ plain_from text (s.at + w) → (left text s ≡ out ++ rest) × (0 < length out)
+escape_piece text s e w out rest p c i o r = rw (o, r, i) (left_any text s p ∙ char_from (escape_char e c), meant_some e)
+
+-- A run that is not empty, as a part of the text.
+pub run_piece : {text : List ℕ} {s : Spot} {r : ℕ} → Run text s r → s.at < r
+    → (left text s ≡ take (r - s.at) (drop s.at text) ++ left text (behind_run s r)) × (0 < length (take (r - s.at) (drop s.at text)))
+run_piece {text} {s} {r} u h =
+    let p : take (r - s.at) (drop s.at text) ≡ slice s.at r text = between_is text s.at r in
+    let n : length (slice s.at r text) ≡ r - s.at = run_size u in
+    rw p (u.bytes, omega arith)

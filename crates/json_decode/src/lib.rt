@@ -2,17 +2,20 @@
 #![tactic(auto)]
 
 ghost use Rattle.std.specs.Prelude.{◌≡◌, List, [], ◌∷◌, ℕ, drop, MatchOption};
-ghost use Rattle.std.specs.Iterator.{YieldsFirst, item_count};
 ghost use Rattle.json_grammar.specs.Byte.{utf8};
 ghost use Rattle.json_grammar.specs.String.{one_more, gather, point, meant, given as given_by};
 ghost use Rattle.json_move.specs.Read.{decoded};
-ghost use Rattle.json_decode.specs.Characters.{plain_from, left, spot_at, behind_run, Steps, Run, GivesBytes, bytes_of, ahead, YieldsPiece, bytes_ahead};
+ghost use Rattle.json_decode.specs.Characters.{plain_from, left, meant_by, spot_at, behind_run, Steps, Run, GivesBytes};
 
+mod by_byte;
+mod by_piece;
 mod up_to_four;
 
+pub use by_byte::{Cursor, plain_at};
+pub use by_piece::{Piece, Pieces};
 use json_grammar::string::{CharStep, InString, Letter};
 use json_scan::escape::Escape;
-use json_scan::{byte, escape, string};
+use json_scan::{byte, string};
 pub use up_to_four::Out;
 
 // A place inside a string, with what may stand there, and the digits gathered of an escape.
@@ -25,96 +28,9 @@ pub struct Spot {
 
 // Bytes that were decoded, and the spot behind them.
 #[derive(Drop)]
-pub struct NextBytes {
-    pub out: Out,
-    pub spot: Spot,
-}
-
-// Bytes of a string: a run of the text's own, or some that were decoded.
-#[derive(Drop)]
-pub enum Piece<'a> {
-    Spelled(&'a [u8]),
-    Decoded(Out),
-}
-
-impl<'a> Piece<'a> {
-    pub fn as_slice(&self) -> &[u8]
-        ensures { result.now ≡ bytes_of self.now }
-    {
-        match self {
-            Piece::Spelled(bytes) => bytes,
-            Piece::Decoded(out) => out.as_slice(),
-        }
-    }
-}
-
-// The bytes of a string from a spot on, as many at once as stand there or are decoded together.
-#[derive(Clone, Copy, Drop)]
-pub struct Pieces<'a> {
-    text: &'a [u8],
-    spot: Spot,
-}
-
-impl<'a> Pieces<'a> {
-    // Those of the string whose quote stands at `quote`.
-    pub fn of(text: &'a [u8], quote: usize) -> Self
-        ensures { ahead result ≡ decoded (drop quote text.now) }
-    {
-        Pieces {
-            text,
-            spot: spot_at(behind(text, quote)),
-        }
-    }
-}
-
-impl<'a> Iterator for Pieces<'a> {
-    type Item = Piece<'a>;
-
-    ghost next_gives = { YieldsPiece };
-
-    ghost remaining = { item_count ahead };
-
-    fn next(&mut self) -> Option<Piece<'a>> {
-        let start = self.spot.at;
-        let end = run_end(self.text, self.spot);
-        if start < end {
-            self.spot = behind_run(self.spot, end);
-            return Some(Piece::Spelled(&self.text[start..end]));
-        }
-        let next = next_bytes(self.text, self.spot)?;
-        self.spot = next.spot;
-        Some(Piece::Decoded(next.out))
-    }
-}
-
-// The bytes of a string one by one: those that were decoded, of which so many are given out, and the spot behind them.
-#[derive(Drop)]
-pub struct Cursor<'a> {
-    text: &'a [u8],
-    spot: Spot,
+struct NextBytes {
     out: Out,
-    given: usize,
-}
-
-impl<'a> Iterator for Cursor<'a> {
-    type Item = u8;
-
-    ghost next_gives = { YieldsFirst bytes_ahead };
-
-    ghost remaining = { item_count bytes_ahead };
-
-    fn next(&mut self) -> Option<u8> {
-        if let Some(&byte) = self.out.as_slice().get(self.given) {
-            self.given += 1;
-            return Some(byte);
-        }
-        let next = next_bytes(self.text, self.spot)?;
-        let first = next.out.as_slice()[0];
-        self.spot = next.spot;
-        self.out = next.out;
-        self.given = 1;
-        Some(first)
-    }
+    spot: Spot,
 }
 
 // Seven digits are kept of v, so that no product wraps.
@@ -162,6 +78,17 @@ pub fn utf8_of(c: u64) -> Out
         third,
         last,
     ])
+}
+
+// What an escape stands for.
+#[inline(always)]
+fn escaped(e: Escape) -> Out
+    ensures { result ≡ meant_by e }
+{
+    match e {
+        Escape::Letter(m) => Out::one(m),
+        Escape::Digits(v, _) => utf8_of(point_of(v)),
+    }
 }
 
 // The code point of the digits gathered, four of one or eight of a pair.
@@ -245,7 +172,8 @@ pub fn plain_end(text: &[u8], at: usize) -> usize
 
 // The place up to which the decoded bytes from a spot on are those of the text.
 #[tactic(auto, using(crate::proofs::Runs::run_none, crate::proofs::Runs::run_at))]
-pub fn run_end(text: &[u8], s: Spot) -> usize
+#[inline(always)]
+fn run_end(text: &[u8], s: Spot) -> usize
     ensures { Run text.now s result }
 {
     match s.state {
@@ -255,13 +183,15 @@ pub fn run_end(text: &[u8], s: Spot) -> usize
 }
 
 // The spot behind a run.
-pub fn behind_run(s: Spot, at: usize) -> Spot
+fn behind_run(s: Spot, at: usize) -> Spot
     ensures { result ≡ behind_run s at }
 {
     Spot { at, ..s }
 }
 
 // The next decoded bytes of a string, byte by byte.
+#[cold]
+#[inline(never)]
 fn stepped_bytes(text: &[u8], s: Spot) -> Option<NextBytes>
     ensures { MatchOption result (left text.now s ≡ []) (GivesBytes text.now s) }
 {
@@ -272,34 +202,6 @@ fn stepped_bytes(text: &[u8], s: Spot) -> Option<NextBytes>
             return Some(next);
         }
         spot = next.spot;
-    }
-}
-
-// Those of the escape where a whole one stands.
-fn escaped_bytes(text: &[u8], s: Spot) -> Option<NextBytes>
-    requires { s.state ≡ InString.Plain }
-    ensures { MatchOption result (left text.now s ≡ []) (GivesBytes text.now s) }
-{
-    match escape::escape_at(text, s.at) {
-        Some(Escape::Letter(m)) => Some(NextBytes {
-            out: Out::one(m),
-            spot: spot_at(s.at + 2),
-        }),
-        Some(Escape::Digits(v, n)) => Some(NextBytes {
-            out: utf8_of(point_of(v)),
-            spot: spot_at(s.at + n),
-        }),
-        None => stepped_bytes(text, s),
-    }
-}
-
-// The next decoded bytes of a string, none where it ends.
-pub fn next_bytes(text: &[u8], s: Spot) -> Option<NextBytes>
-    ensures { MatchOption result (left text.now s ≡ []) (GivesBytes text.now s) }
-{
-    match s.state {
-        InString::Plain => escaped_bytes(text, s),
-        _ => stepped_bytes(text, s),
     }
 }
 
@@ -321,24 +223,4 @@ pub fn spot_at(at: usize) -> Spot
         state: InString::Plain,
         v: 0,
     }
-}
-
-// The cursor at such a spot.
-#[tactic(auto, unfolding(crate::specs::Characters::bytes_ahead))]
-pub fn plain_at(text: &[u8], at: usize) -> Cursor<'_>
-    ensures { bytes_ahead result ≡ plain_from text.now at }
-{
-    Cursor {
-        text,
-        spot: spot_at(at),
-        out: Out::none(),
-        given: 0,
-    }
-}
-
-// The cursor behind the opening quote at `quote`.
-pub fn start(text: &[u8], quote: usize) -> Cursor<'_>
-    ensures { bytes_ahead result ≡ decoded (drop quote text.now) }
-{
-    plain_at(text, behind(text, quote))
 }

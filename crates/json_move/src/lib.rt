@@ -125,7 +125,7 @@ fn behind_bracket(text: &[u8], at: usize) -> usize
 fn is_numeric(b: u8) -> bool
     ensures { result ≡ is_numeric b }
 {
-    matches!(b, b'+' | b'-' | b'.' | b'0'..=b'9' | b'E' | b'e')
+    b.is_ascii_digit() || matches!(b, b'+' | b'-' | b'.' | b'E' | b'e')
 }
 
 // The place behind the number at `at`.

@@ -1,5 +1,5 @@
 use Rattle.json_lay.proofs.Pieces.{put_on}
-use Rattle.json_decode.specs.Characters.{bytes_of}
+use Rattle.json_decode.specs.Bytes.{bytes_of}
 use Rattle.json_lay.proofs.copy.Goals as goal
 
 pub loop-piece-preserved : goal.loop-piece-preserved

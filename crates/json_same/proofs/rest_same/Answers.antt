@@ -1,4 +1,4 @@
-use Rattle.json_decode.specs.Characters.{bytes_ahead}
+use Rattle.json_decode.specs.Bytes.{bytes_ahead}
 use Rattle.json_same.proofs.Turns.{compared}
 use Rattle.json_same.proofs.rest_same.Goals as goal
 
