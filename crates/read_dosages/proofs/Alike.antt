@@ -1,5 +1,5 @@
 -- Objects that are read alike, two by two: what each makes, and what holds of the one that is asked for.
-use Prim.Native.Nat.{ℕ, suc, ◌<◌, ◌≤◌}
+use Prim.Native.Nat.{ℕ, suc, ◌≤◌}
 use mathlib.Core.Path.{◌≡◌, refl, sym, subst}
 use mathlib.Core.List.{List}
 use mathlib.Core.Bool.{Bool, true, false, cond}
@@ -22,13 +22,10 @@ abbrev pub on_days : Bool → List ℕ → P.Timed → P.Timed
 on_days true ds td = P.week_days ds td
 on_days false ds td = P.days_of_month ds td
 
--- What holds of each of two numbers holds of the one that is picked.
-pub either : (Holds : Bool → ℕ → Type 0) (first : Bool) {a b k : ℕ} → k ≡ cond first a b → Holds true a → Holds false b → Holds first k
-either Holds true e x y = subst (λ (k : ℕ). Holds true k) (sym e) x
-either Holds false e x y = subst (λ (k : ℕ). Holds false k) (sym e) y
-
-pub name_small : (first : Bool) {a b k : ℕ} → k ≡ cond first a b → a < 33 → b < 33 → k < 33
-name_small first e = either (λ _ k. k < 33) first e
+-- What holds of each of two holds of the one that is picked.
+pub either : {A : Type 0} (Holds : Bool → A → Type 0) (first : Bool) {a b k : A} → k ≡ cond first a b → Holds true a → Holds false b → Holds first k
+either {A} Holds true e x y = subst (λ (k : A). Holds true k) (sym e) x
+either {A} Holds false e x y = subst (λ (k : A). Holds false k) (sym e) y
 
 -- Of two types that follow one another, the one that was read.
 pub of_two : (t kind : ℕ) → t ≤ kind → kind ≤ suc t → kind ≡ cond (eqb kind t) t (suc t)

@@ -5,6 +5,7 @@ use mathlib.Core.Path.{◌≡◌, ap, sym, ◌∙◌}
 use mathlib.Core.List.{List, []}
 use lib.ListN.{length, drop}
 use lib.Seq.{length-sets}
+use Rattle.std.specs.Prelude.{Option, Ok, Err}
 use Rattle.json_grammar.specs.Tree.{Place}
 use Rattle.document.specs.Bytes.{bytes}
 use Rattle.document.specs.Lookup.{Entry, find}
@@ -13,18 +14,18 @@ use Rattle.document.specs.Visit.{Outcome, bind, needed, fields, Value}
 use Rattle.document.specs.At.{Slot}
 use Rattle.document.specs.Words.{width, Words, row}
 use Rattle.document.specs.Told.{more, Still}
+use Rattle.document.specs.Refusals.{number_of}
+use Rattle.document.specs.declared.refusal.Refusal.{Refusal}
 use Rattle.document.specs.declared.terms.Terms.{Terms}
 use Rattle.document.specs.declared.terms.Used.{Used}
 use Rattle.document.proofs.Taken.{still_same}
 use Rattle.read_fields.specs.Fields.{Refuses}
 use Rattle.table_rows.specs.Storing.{written}
-use Rattle.read_records.specs.declared.rows.Visit.{Visit}
-use Rattle.read_records.specs.declared.rows.Visit.TheVariants.{Done, Refused}
 use Rattle.read_records.proofs.Records.{stores}
 use Rattle.read_dosages.specs.Visiting.{RowsIn, Did, VisitsNeeded}
 use Rattle.read_dosages.specs.Kept.{Ready, Kept}
 use Rattle.read_dosages.proofs.Bodies.{Comes, stopped}
-use Rattle.read_dosages.proofs.Rowed.{visited_done, visited_refused, kept_done, grown_above, one_ready}
+use Rattle.read_dosages.proofs.Rowed.{kept_done, grown_above, one_ready}
 
 -- A record was taken.
 module _ (u : Used) {w : Used} (one : w ≡ more u) where
@@ -38,12 +39,11 @@ module _ (u : Used) {w : Used} (one : w ≡ more u) where
   ready_more r few = one_ready r few (still_same (sym one))
 
   -- What is kept where the record is stored in front of those below it.
-  pub kept_above : {terms : Terms} {least : ℕ} {before mid after : List ℕ} {v v' : Used} {x r : Visit} (ws : Words) → Ready terms before u → u.records < 64
-      → Kept terms least before w x mid → x ≡ Done v → Still v v' → (r ≡ Done v') × (after ≡ written mid u.records ws) → Kept terms 1 before u r after
-  kept_above {mid = mid} {v = v} ws ready few kept is still store =
-      let (e, stored) = stores mid u.records ws (kept.size ∙ ready.size) few store in
-      kept_done e (ap length stored ∙ length-sets mid (width * u.records) (row ws []) ∙ kept.size)
-      (grown_above (still_same (sym one)) (kept.grown v is) still)
+  pub kept_above : {terms : Terms} {least : ℕ} {before mid after : List ℕ} {v v' : Used} (ws : Words) → Ready terms before u → u.records < 64
+      → Kept terms least before w (Ok v) mid → Still v v' → after ≡ written mid u.records ws → Kept terms 1 before u (Ok v') after
+  kept_above {mid = mid} ws ready few kept still store =
+      kept_done (ap length (stores mid u.records ws (kept.size ∙ ready.size) few store) ∙ length-sets mid (width * u.records) (row ws []) ∙ kept.size)
+      (grown_above (still_same (sym one)) kept.grown still)
 
 -- What was done below, and the object that stands there.
 module _ {A : Type 0} {terms : Terms} {text : List ℕ} {o : Outcome A} {p : Place} {es : List (Entry Value)} {u : Used} where
@@ -52,12 +52,9 @@ module _ {A : Type 0} {terms : Terms} {text : List ℕ} {o : Outcome A} {p : Pla
   took_below {k = k} g d = record { state = d.state; outcome = g.outcome ∙ ap (λ q. bind q λ x m. fields (k x) p es m) d.outcome; tells = d.tells }
 
 module _ {A : Type 0} {terms : Terms} {text : List ℕ} {o : Outcome A} (at : ℕ) {es : List (Entry Value)} {u : Used} {n : String} {fam : Family} {k : OfFamily fam → Rows A}
-    (g : Comes terms text o (drop at text) es (need n (an_object fam) k) u) (rows_in : RowsIn (OfFamily fam)) (v : ℕ) (before mid : List ℕ) (r : Visit)
-    (visits : VisitsNeeded terms fam rows_in text at v u before r mid) (slot : Slot text v (find (bytes n) es)) where
-  pub object_did : {w : Used} → r ≡ Done w → Did terms text u before rows_in (needed (an_object fam) (drop at text) (find (bytes n) es) g.state) w mid
-  object_did e = visited_done terms text u before rows_in (needed (an_object fam) (drop at text) (find (bytes n) es) g.state) mid (visits g.state g.tells _ slot) e
+    (g : Comes terms text o (drop at text) es (need n (an_object fam) k) u) (rows_in : RowsIn (OfFamily fam)) {v : Option ℕ} (before mid : List ℕ) (slot : Slot text v (find (bytes n) es)) where
+  pub object_did : {w : Used} → VisitsNeeded terms fam rows_in text at v u before (Ok w) mid → Did terms text u before rows_in (needed (an_object fam) (drop at text) (find (bytes n) es) g.state) w mid
+  object_did visits = visits g.state g.tells _ slot
 
-  pub object_stopped : {m q : ℕ} → r ≡ Refused m q → Refuses text o m q × (length mid ≡ length before)
-  object_stopped e =
-      let h = visited_refused terms text u before rows_in (needed (an_object fam) (drop at text) (find (bytes n) es) g.state) mid (visits g.state g.tells _ slot) e in
-      (stopped g h.0, h.1)
+  pub object_stopped : (r : Refusal) → VisitsNeeded terms fam rows_in text at v u before (Err r) mid → Refuses text o (number_of r.0) r.1 × (length mid ≡ length before)
+  object_stopped r visits = let h = visits g.state g.tells _ slot in (stopped g h.0, h.1)

@@ -4,38 +4,33 @@ use Prim.Native.String.{String}
 use mathlib.Core.Path.{◌≡◌, refl, ap, sym, ◌∙◌, subst}
 use mathlib.Core.List.{List, [], ◌∷◌, ◌++◌}
 use mathlib.Core.Bool.{Bool, true, false}
-use mathlib.Core.Option.{Option}
+use mathlib.Core.Option.{Option, none}
 use lib.ListN.{length, drop}
+use Rattle.std.specs.Prelude.{Result, Ok, Err}
 use Rattle.json_grammar.specs.Tree.{Place, object, list, Members, Elements}
 use Rattle.json_grammar.specs.Grammar.{Value, an_empty_object, an_object, an_empty_list, a_list}
 use Rattle.document.specs.Bytes.{bytes}
 use Rattle.document.specs.Lookup.{Entry, find, unknown}
-use Rattle.document.specs.Schema.{Family, Shape, NumberShape, a_number, Of, Rows, need, may, ListShape, OfFamily, OfList, a_timed, rows_of, types_of, is_record, may_stand, may_open, names}
+use Rattle.document.specs.Schema.{Family, Shape, NumberShape, a_number, Of, Rows, need, may, a_timed, rows_of, types_of, is_record, may_stand, may_open, names}
 use Rattle.document.specs.Visit.{State, opened, Outcome, done, refuse, bind, guard, unless, needed, optional, fields, body, members, entries_of, Value as Waits}
 use Rattle.document.specs.At.{At}
 use Rattle.document.specs.Told.{Tells, more, Hands, GoesOn}
+use Rattle.document.specs.Refusals.{number_of}
+use Rattle.document.specs.declared.refusal.Reason.{Reason}
+use Rattle.document.specs.declared.refusal.Refusal.{Refusal}
 use Rattle.document.specs.declared.terms.Terms.{Terms}
 use Rattle.document.specs.declared.terms.Used.{Used}
 use Rattle.document.proofs.Taken.{one_left, none_left, tells_opened}
 use Rattle.read_names.specs.Names.{row_names}
-use Rattle.read_names.specs.Names as N
-use Rattle.read_fields.specs.Fields.{Refuses, Reads, Counts, CountsFrom, itself, Child, FindsObject, Listing, FindsList}
+use Rattle.read_names.specs.declared.names.Name.{Name}
+use Rattle.read_fields.specs.Fields.{Refuses, Reads, CountsFrom, itself}
+use Rattle.read_fields.specs.declared.field.Counted.{Counted}
 use Rattle.read_fields.proofs.Refusals.{refuses_as, refuses_bind}
 use Rattle.read_records.specs.Under.{types_under}
-use Rattle.read_type.specs.Opens.{Typed, Opens, OpensTyped, Plain, OpensAs, OpensPlain, by_kind, type_place}
-use Rattle.read_type.specs.declared.opened.Object.{Object}
+use Rattle.read_type.specs.Opens.{Typed, Plain, KnowsAll, by_kind, type_place}
 use Rattle.read_type.specs.declared.opened.Opened.{Opened}
-use Rattle.read_type.specs.declared.opened.Opened.TheVariants as O
-use Rattle.read_type.specs.declared.opened.Opening.{Opening}
+use Rattle.read_names.specs.declared.slots.Object.{Object}
 use Rattle.read_dosages.specs.Visiting.{Under}
-use Rattle.read_fields.specs.declared.field.Found.{Found as FoundAt}
-use Rattle.read_fields.specs.declared.field.Found.TheVariants as A
-use Rattle.read_fields.specs.declared.field.Field.{Field}
-use Rattle.read_fields.specs.declared.field.Field.TheVariants as F
-use Rattle.read_fields.specs.declared.field.Counted.{Counted}
-use Rattle.read_fields.specs.declared.field.Counted.TheVariants as C
-use Rattle.read_names.specs.declared.Unknown.{Unknown}
-use Rattle.read_names.specs.declared.Unknown.TheVariants.{None, At as AtQuote}
 
 pub done_bind : {A B : Type 0} {o : Outcome A} {a : A} {l : State} (k : A → State → Outcome B) → o ≡ done a l → bind o k ≡ k a l
 done_bind k e = ap (λ o. bind o k) e
@@ -55,8 +50,8 @@ object_at a = object_place a.spelled
 pub list_at : {text : List ℕ} {at : ℕ} {p : Place} {es : Elements} → At text at (list p es) → p ≡ drop at text
 list_at a = list_place a.spelled
 
--- The names of an object's rows, by their numbers.
-pub record Known (f : Family) (t : ℕ) (also : List (List ℕ)) (ks : List ℕ) : Type 0 where
+-- The names of an object's rows.
+pub record Known (f : Family) (t : ℕ) (also : List (List ℕ)) (ks : List Name) : Type 0 where
   pub counted : is_record f ≡ true
   pub named : row_names ks ≡ also ++ names (rows_of f t)
 
@@ -72,28 +67,29 @@ pub record Comes {A : Type 0} (terms : Terms) (text : List ℕ) (o : Outcome A) 
   pub outcome : o ≡ fields rows p es state
   pub tells : Tells terms text u state
 
-module _ {f : Family} {t : ℕ} {also : List (List ℕ)} {ks : List ℕ} (k : Known f t also ks) {terms : Terms} {text : List ℕ} {u : Used} {s : State} (tells : Tells terms text u s)
+module _ {f : Family} {t : ℕ} {also : List (List ℕ)} {ks : List Name} (k : Known f t also ks) {terms : Terms} {text : List ℕ} {u : Used} {s : State} (tells : Tells terms text u s)
     (few : u.records < 64) (p : Place) (es : List (Entry Waits)) where
   body_begins : body f t also p es s ≡ unless (unknown (row_names ks) es) 5 (fields (rows_of f t) p es (opened s))
   body_begins =
       rw (k.counted, one_left tells few)
       (ap (λ ns. unless (unknown ns es) 5 (fields (rows_of f t) p es (opened s))) (sym k.named))
 
-  pub body_opens : (r : Unknown) → N.Tells text (unknown (row_names ks) es) r → r ≡ None → {w : Used} → w ≡ more u → {q : Place} → p ≡ q
-      → Comes terms text (body f t also p es s) q es (rows_of f t) w
-  body_opens r told e counted at =
+  pub body_opens : unknown (row_names ks) es ≡ none → {w : Used} → w ≡ more u → {q : Place} → p ≡ q → Comes terms text (body f t also p es s) q es (rows_of f t) w
+  body_opens all counted at =
       record {
         state = opened s;
-        outcome =
-            body_begins ∙ ap (λ o. unless o 5 (fields (rows_of f t) p es (opened s))) (subst (λ (x : Unknown). N.Tells text (unknown (row_names ks) es) x) e told)
-            ∙ ap (λ q. fields (rows_of f t) q es (opened s)) at;
+        outcome = body_begins ∙ ap (λ o. unless o 5 (fields (rows_of f t) p es (opened s))) all ∙ ap (λ q. fields (rows_of f t) q es (opened s)) at;
         tells = subst (λ (x : Used). Tells terms text x (opened s)) (sym counted) (tells_opened tells few);
       }
 
-  pub body_unknown : (r : Unknown) {q : ℕ} → N.Tells text (unknown (row_names ks) es) r → r ≡ AtQuote q → Refuses text (body f t also p es s) 5 q
-  body_unknown r {q} told e =
-      let (o, inside) = subst (λ (x : Unknown). N.Tells text (unknown (row_names ks) es) x) e told in
-      record { outcome = body_begins ∙ ap (λ o. unless o 5 (fields (rows_of f t) p es (opened s))) o; inside = inside }
+  pub body_unknown : (r : Refusal) → KnowsAll text (unknown (row_names ks) es) (Err r) → Refuses text (body f t also p es s) (number_of r.0) r.1
+  body_unknown r told =
+      record {
+        outcome =
+            body_begins ∙ ap (λ o. unless o 5 (fields (rows_of f t) p es (opened s))) told.1
+            ∙ ap (λ (w : Reason). refuse (number_of w) (drop r.1 text)) (sym told.0);
+        inside = told.2;
+      }
 
 -- Fields in turn.
 module _ {A : Type 0} {terms : Terms} {text : List ℕ} {o : Outcome A} {p : Place} {es : List (Entry Waits)} {u : Used} where
@@ -109,13 +105,13 @@ module _ {A : Type 0} {terms : Terms} {text : List ℕ} {o : Outcome A} {p : Pla
     pub stopped : {m q : ℕ} → Refuses text (needed s p (find (bytes n) es) g.state) m q → Refuses text o m q
     stopped h = refuses_as g.outcome (refuses_bind (λ x m. fields (k x) p es m) h)
 
-    -- An integer, or what is counted so.
-    module _ (counts : Of s → ℕ) (r : Counted) (reads : CountsFrom text u (needed s p (find (bytes n) es)) counts r) where
-      pub counted_hands : {x : ℕ} {v : Used} → r ≡ C.Is x v → Hands terms text (needed s p (find (bytes n) es) g.state) v λ y. counts y ≡ x
-      counted_hands e = subst (λ (y : Counted). Counts terms text (needed s p (find (bytes n) es) g.state) counts y) e (reads terms g.state g.tells)
+    -- What is counted.
+    module _ (counts : Of s → ℕ) where
+      pub counted_hands : (c : Counted) → CountsFrom text u (needed s p (find (bytes n) es)) counts (Ok c) → Hands terms text (needed s p (find (bytes n) es) g.state) c.used λ y. counts y ≡ c.value
+      counted_hands c reads = reads terms g.state g.tells
 
-      pub stopped_counted : {m q : ℕ} → r ≡ C.Refused m q → Refuses text o m q
-      stopped_counted e = stopped (subst (λ (y : Counted). Counts terms text (needed s p (find (bytes n) es) g.state) counts y) e (reads terms g.state g.tells))
+      pub stopped_counted : (r : Refusal) → CountsFrom text u (needed s p (find (bytes n) es)) counts (Err r) → Refuses text o (number_of r.0) r.1
+      stopped_counted r reads = stopped (reads terms g.state g.tells)
 
   module _ {n : String} {s : Shape} {k : Option (Of s) → Rows A} (g : Comes terms text o p es (may n s k) u) where
     pub took_given : {v : Used} {Holds : Option (Of s) → Type 0} (h : Hands terms text (optional s p (find (bytes n) es) g.state) v Holds) → Comes terms text o p es (k h.value) v
@@ -127,30 +123,29 @@ module _ {A : Type 0} {terms : Terms} {text : List ℕ} {o : Outcome A} {p : Pla
     pub stopped_given : {m q : ℕ} → Refuses text (optional s p (find (bytes n) es) g.state) m q → Refuses text o m q
     stopped_given h = refuses_as g.outcome (refuses_bind (λ x m. fields (k x) p es m) h)
 
-    module _ (counts : Option (Of s) → ℕ) (r : Counted) (reads : CountsFrom text u (optional s p (find (bytes n) es)) counts r) where
-      pub given_hands : {x : ℕ} {v : Used} → r ≡ C.Is x v → Hands terms text (optional s p (find (bytes n) es) g.state) v λ y. counts y ≡ x
-      given_hands e = subst (λ (y : Counted). Counts terms text (optional s p (find (bytes n) es) g.state) counts y) e (reads terms g.state g.tells)
+    module _ (counts : Option (Of s) → ℕ) where
+      pub given_hands : (c : Counted) → CountsFrom text u (optional s p (find (bytes n) es)) counts (Ok c) → Hands terms text (optional s p (find (bytes n) es) g.state) c.used λ y. counts y ≡ c.value
+      given_hands c reads = reads terms g.state g.tells
 
-      pub given_stopped : {m q : ℕ} → r ≡ C.Refused m q → Refuses text o m q
-      given_stopped e = stopped_given (subst (λ (y : Counted). Counts terms text (optional s p (find (bytes n) es) g.state) counts y) e (reads terms g.state g.tells))
+      pub given_stopped : (r : Refusal) → CountsFrom text u (optional s p (find (bytes n) es)) counts (Err r) → Refuses text o (number_of r.0) r.1
+      given_stopped r reads = stopped_given (reads terms g.state g.tells)
 
   module _ {n : String} {sh : NumberShape} {k : ℕ → Rows A} (g : Comes terms text o p es (need n (a_number sh) k) u) where
     -- A number that leaves the state alone.
-    module _ (r : Field) (reads : (l : State) → Reads text (needed (a_number sh) p (find (bytes n) es) l) l r) where
-      pub took_number : {x : ℕ} → r ≡ F.Is x → Comes terms text o p es (k x) u
-      took_number e = passed g (subst (λ (y : Field). Reads text (needed (a_number sh) p (find (bytes n) es) g.state) g.state y) e (reads g.state))
+    pub took_number : (x : ℕ) → ((l : State) → Reads text (needed (a_number sh) p (find (bytes n) es) l) l (Ok x)) → Comes terms text o p es (k x) u
+    took_number x reads = passed g (reads g.state)
 
-      pub stopped_number : {m q : ℕ} → r ≡ F.Refused m q → Refuses text o m q
-      stopped_number e = stopped g (subst (λ (y : Field). Reads text (needed (a_number sh) p (find (bytes n) es) g.state) g.state y) e (reads g.state))
+    pub stopped_number : (r : Refusal) → ((l : State) → Reads text (needed (a_number sh) p (find (bytes n) es) l) l (Err r)) → Refuses text o (number_of r.0) r.1
+    stopped_number r reads = stopped g (reads g.state)
 
-    module _ (r : Counted) (reads : CountsFrom text u (needed (a_number sh) p (find (bytes n) es)) itself r) where
-      pub took_integer : {x : ℕ} {v : Used} → r ≡ C.Is x v → Comes terms text o p es (k x) v
-      took_integer {v = v} e =
-          let h = counted_hands g itself r reads e in
-          subst (λ (y : ℕ). Comes terms text o p es (k y) v) h.holds (took g h)
+    -- An integer.
+    pub took_integer : (c : Counted) → CountsFrom text u (needed (a_number sh) p (find (bytes n) es)) itself (Ok c) → Comes terms text o p es (k c.value) c.used
+    took_integer c reads =
+        let h = counted_hands g itself c reads in
+        subst (λ (y : ℕ). Comes terms text o p es (k y) c.used) h.holds (took g h)
 
-      pub stopped_integer : {m q : ℕ} → r ≡ C.Refused m q → Refuses text o m q
-      stopped_integer e = stopped_counted g itself r reads e
+    pub stopped_integer : (r : Refusal) → CountsFrom text u (needed (a_number sh) p (find (bytes n) es)) itself (Err r) → Refuses text o (number_of r.0) r.1
+    stopped_integer r reads = stopped_counted g itself r reads
 
 -- A test that holds, and one that fails.
 pub guard_holds : {A : Type 0} {t : Bool} (n : ℕ) (p : Place) {r : Outcome A} → t ≡ true → guard t n p r ≡ r
@@ -160,9 +155,9 @@ pub guard_fails : {A : Type 0} {t : Bool} (n : ℕ) (p : Place) (r : Outcome A) 
 guard_fails n p r e = ap (λ t. guard t n p r) e
 
 -- An object that was opened reads as its body.
-pub typed_as : {types : ℕ} {text : List ℕ} {at : ℕ} {u v : Used} {es : List (Entry Waits)} {kind : ℕ} {o : Object} (x : Typed types text at u es kind v o) (f : Family) (t : ℕ) {p : Place}
-    {terms : Terms} {s : State} → Tells terms text u s → types_of f ≡ types → kind ≡ t → may_stand f t ≡ true → may_open f t ≡ true → p ≡ drop at text
-    → GoesOn terms text (members f p es s) v (body f t (bytes "t" ∷ []) p es)
+pub typed_as : {types : ℕ} {text : List ℕ} {at : ℕ} {u : Used} {es : List (Entry Waits)} {o : Opened} (x : Typed types text at u es o) (f : Family) (t : ℕ) {p : Place}
+    {terms : Terms} {s : State} → Tells terms text u s → types_of f ≡ types → o.kind ≡ t → may_stand f t ≡ true → may_open f t ≡ true → p ≡ drop at text
+    → GoesOn terms text (members f p es s) o.used (body f t (bytes "t" ∷ []) p es)
 typed_as {text = text} {at} {es = es} {o = o} x f t {s = s} tells ts k stand open' e =
     let g = x.opens f ts _ s tells in
     record {
@@ -170,16 +165,16 @@ typed_as {text = text} {at} {es = es} {o = o} x f t {s = s} tells ts k stand ope
       outcome =
           ap (λ q. members f q es s) e
           ∙ g.outcome
-          ∙ ap (λ t'. by_kind f t' text at o es g.state) k
-          ∙ guard_holds 10 (type_place text o) stand
-          ∙ guard_holds 14 (type_place text o) open'
+          ∙ ap (λ t'. by_kind f t' text at o.object es g.state) k
+          ∙ guard_holds 10 (type_place text o.object) stand
+          ∙ guard_holds 14 (type_place text o.object) open'
           ∙ ap (λ q. body f t (bytes "t" ∷ []) q es g.state) (sym e);
       tells = g.tells;
     }
 
-pub under_as : {parent : ℕ} {text : List ℕ} {at : ℕ} {u v : Used} {es : List (Entry Waits)} {kind : ℕ} {o : Object} (x : Under parent text at u es kind v o) (t : ℕ) {p : Place}
-    {terms : Terms} {s : State} → Tells terms text u s → kind ≡ t → p ≡ drop at text
-    → GoesOn terms text (members (a_timed (types_under parent)) p es s) v (body (a_timed (types_under parent)) t (bytes "t" ∷ []) p es)
+pub under_as : {parent : ℕ} {text : List ℕ} {at : ℕ} {u : Used} {es : List (Entry Waits)} {o : Opened} (x : Under parent text at u es o) (t : ℕ) {p : Place}
+    {terms : Terms} {s : State} → Tells terms text u s → o.kind ≡ t → p ≡ drop at text
+    → GoesOn terms text (members (a_timed (types_under parent)) p es s) o.used (body (a_timed (types_under parent)) t (bytes "t" ∷ []) p es)
 under_as {parent} {text} {at} {es = es} x t {s = s} tells k e =
     let g = x.opens _ s tells in
     record {
@@ -192,44 +187,12 @@ under_as {parent} {text} {at} {es = es} x t {s = s} tells k e =
       tells = g.tells;
     }
 
--- An object or a list that is found, and one that is refused.
-module _ (text : List ℕ) (reads : (f : Family) → State → Outcome (OfFamily f)) {r : FoundAt} (h : FindsObject text reads r) where
-  pub finds_child : {at : ℕ} → r ≡ A.At at → Child text at reads
-  finds_child e = subst (λ (x : FoundAt). FindsObject text reads x) e h
-
-  pub finds_refused : {n q : ℕ} → r ≡ A.Refused n q → (f : Family) (l : State) → Refuses text (reads f l) n q
-  finds_refused e = subst (λ (x : FoundAt). FindsObject text reads x) e h
-
-module _ (text : List ℕ) (reads : (s : ListShape) → State → Outcome (OfList s)) {r : FoundAt} (h : FindsList text reads r) where
-  pub finds_list : {at : ℕ} → r ≡ A.At at → Listing text at reads
-  finds_list e = subst (λ (x : FoundAt). FindsList text reads x) e h
-
-  pub finds_no_list : {n q : ℕ} → r ≡ A.Refused n q → (s : ListShape) (l : State) → Refuses text (reads s l) n q
-  finds_no_list e = subst (λ (x : FoundAt). FindsList text reads x) e h
-
 -- An object without a type reads as its body.
-pub plain_as : {text : List ℕ} {at : ℕ} {u v : Used} {es : List (Entry Waits)} {o : Object} (x : Plain text at u es v o) (f : Family) {p : Place} {terms : Terms} {s : State}
-    → Tells terms text u s → types_of f ≡ 0 → p ≡ drop at text → GoesOn terms text (members f p es s) v (body f 0 [] p es)
-plain_as {text} {es = es} x f {terms = terms} {s} tells ts e =
+pub plain_as : {text : List ℕ} {at : ℕ} {u : Used} {es : List (Entry Waits)} {o : Object} (x : Plain text at es o) (f : Family) {p : Place} {terms : Terms} {s : State}
+    → Tells terms text u s → types_of f ≡ 0 → p ≡ drop at text → GoesOn terms text (members f p es s) u (body f 0 [] p es)
+plain_as {es = es} x f {s = s} tells ts e =
     record {
       state = s;
       outcome = ap (λ q. members f q es s) e ∙ x.opens f ts s ∙ ap (λ q. body f 0 [] q es s) (sym e);
-      tells = subst (λ (w : Used). Tells terms text w s) (sym x.same) tells;
+      tells = tells;
     }
-
--- An object that was opened, and one that is refused.
-module _ (u : Used) (r : Opening) {text : List ℕ} {at : ℕ} {p : Place} {ms : Members} (a : At text at (object p ms)) where
-  module _ (types : ℕ) (h : OpensTyped types text at u r) where
-    pub opens_typed : {kind : ℕ} {v : Used} → r.answer ≡ O.Is kind v → Typed types text at u (entries_of ms) kind v r.object
-    opens_typed e = subst (λ (x : Opened). Opens types text at u (entries_of ms) x r.object) e (h p ms a)
-
-    pub opens_refused : {n q : ℕ} → r.answer ≡ O.Refused n q → (f : Family) → types_of f ≡ types → {terms : Terms} {s : State} → Tells terms text u s
-        → Refuses text (members f (drop at text) (entries_of ms) s) n q
-    opens_refused e f ts tells = (subst (λ (x : Opened). Opens types text at u (entries_of ms) x r.object) e (h p ms a)) f ts _ _ tells
-
-  module _ (h : OpensPlain text at u r) where
-    pub opens_plain : {kind : ℕ} {v : Used} → r.answer ≡ O.Is kind v → Plain text at u (entries_of ms) v r.object
-    opens_plain e = subst (λ (x : Opened). OpensAs text at u (entries_of ms) x r.object) e (h p ms a)
-
-    pub plain_refused : {n q : ℕ} → r.answer ≡ O.Refused n q → (f : Family) → types_of f ≡ 0 → (s : State) → Refuses text (members f (drop at text) (entries_of ms) s) n q
-    plain_refused e = subst (λ (x : Opened). OpensAs text at u (entries_of ms) x r.object) e (h p ms a)

@@ -53,7 +53,7 @@ row_above t a b c d {n' = n'} {k} e e' = ap (λ n. row (words n t a b c d) k) e 
 pub application_rows : (timed : Bool) (d : P.Dosage) (a : ℕ) {tag n : ℕ} {k : List ℕ} → tag ≡ cond timed 17 18 → n ≡ 1 → k ≡ rows (all_words (dosage_row d ∷ []))
     → row (words n tag a 0 0 0) k ≡ rows (all_words (applications_rows timed (application timed d a ∷ [])))
 application_rows timed d a {n = n} {k} t e e' =
-    either (λ t tag. row (words n tag a 0 0 0) k ≡ rows (all_words (applications_rows t (application t d a ∷ [])))) timed t (row_above 17 a 0 0 0 e e') (row_above 18 a 0 0 0 e e')
+    either (λ t (tag : ℕ). row (words n tag a 0 0 0) k ≡ rows (all_words (applications_rows t (application t d a ∷ [])))) timed t (row_above 17 a 0 0 0 e e') (row_above 18 a 0 0 0 e e')
 
 -- How many records are below one, by the words of what was done there.
 pub counted : {B : Type 0} {terms : Terms} {text : List ℕ} (u v' : Used) {w v : Used} {before mid : List ℕ} {below : RowsIn B} {o : Outcome B} (d : Did terms text w before below o v mid)
@@ -77,7 +77,7 @@ module _ {n : ℕ} {k : List ℕ} where
   unfolding timed_rows
   days_rows week ds td {kind} t b e e' =
       ap (λ s. row (words n (kind + 5) s 0 0 0) k) (sym b)
-      ∙ either (λ w t. row (words n (t + 5) (day_set ds) 0 0 0) k ≡ rows (all_words (timed_rows (on_days w ds td) []))) week t (row_above 9 (day_set ds) 0 0 0 e e') (row_above 10 (day_set ds) 0 0 0 e e')
+      ∙ either (λ w (t : ℕ). row (words n (t + 5) (day_set ds) 0 0 0) k ≡ rows (all_words (timed_rows (on_days w ds td) []))) week t (row_above 9 (day_set ds) 0 0 0 e e') (row_above 10 (day_set ds) 0 0 0 e e')
 
   pub interval_rows_lem : (d : P.Dosage) (du unit : ℕ) → n ≡ 1 → k ≡ rows (all_words (dosage_row d ∷ [])) → row (words n 11 du unit 0 0) k ≡ rows (all_words (timed_rows (P.interval d du unit) []))
   unfolding timed_rows

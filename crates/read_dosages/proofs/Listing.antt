@@ -5,6 +5,7 @@ use mathlib.Core.List.{List, [], ◌∷◌, ◌++◌}
 use mathlib.Core.Bool.{true, false}
 use native.Mathlib.Omega.{arith}
 use lib.ListN.{length, drop, length-append}
+use Rattle.std.specs.Prelude.{Result, Ok, Err}
 use lib.Seq.{sets, length-sets}
 use Rattle.json_grammar.proofs.Stores.{sets_append}
 use Rattle.json_grammar.specs.Tree.{Place, Moves, Tree, list, Elements}
@@ -13,6 +14,8 @@ use Rattle.document.specs.Schema.{Shape, Of}
 use Rattle.document.specs.Visit.{State, Outcome, done, bind, each, value_of, values_of, Value as Waits}
 use Rattle.document.specs.At.{At}
 use Rattle.document.specs.Told.{Tells}
+use Rattle.document.specs.Refusals.{number_of}
+use Rattle.document.specs.declared.refusal.Refusal.{Refusal}
 use Rattle.document.specs.declared.terms.Terms.{Terms}
 use Rattle.document.specs.declared.terms.Used.{Used}
 use Rattle.document.specs.Words.{width}
@@ -20,8 +23,6 @@ use Rattle.read_fields.specs.Fields.{Refuses}
 use Rattle.read_fields.proofs.Elements.{Standing, standing_first, standing_here, standing_over}
 use Rattle.read_fields.proofs.Refusals.{refuses_as, refuses_bind}
 use Rattle.read_dosages.specs.Visiting.{RowsIn, Did, Visited}
-use Rattle.read_records.specs.declared.rows.Visit.{Visit}
-use Rattle.read_records.specs.declared.rows.Visit.TheVariants.{Done, Refused}
 use Rattle.read_dosages.proofs.Bodies.{done_bind}
 
 -- Elements read one behind the other.
@@ -31,8 +32,8 @@ module _ (terms : Terms) (text : List ℕ) (s : Shape) (all : RowsIn (List (Of s
 
   pub one_then : {one : RowsIn (Of s)} {u u' : Used} {before mid : List ℕ} (v : Waits) (vs : List Waits) {k : State} (d : Did terms text u before one (v.read s k) u' mid)
       → ((end : ℕ) (a : Of s) (as' : List (Of s)) (c c' : List ℕ) → one u'.text a u.text c → all end as' u'.text c' → all end (a ∷ as') u.text (c ++ c'))
-      → (r : Visit) (after : List ℕ) → Visited terms text u' mid all (each s vs d.state) r after → Visited terms text u before all (each s (v ∷ vs) k) r after
-  one_then {u = u} {u'} {before} v vs d join (Done w) after m =
+      → (r : Result Used Refusal) (after : List ℕ) → Visited terms text u' mid all (each s vs d.state) r after → Visited terms text u before all (each s (v ∷ vs) k) r after
+  one_then {u = u} {u'} {before} v vs d join (Ok w) after m =
       record {
         value = d.value ∷ m.value;
         state = m.state;
@@ -46,7 +47,7 @@ module _ (terms : Terms) (text : List ℕ) (s : Shape) (all : RowsIn (List (Of s
             ∙ sym (sets_append d.chunk m.chunk before (width * u.records));
         size = omega (arith, d.size, m.size, length-append d.chunk m.chunk);
       }
-  one_then {u = u} {u'} {before} v vs d join (Refused n p) after m = (
+  one_then {u = u} {u'} {before} v vs d join (Err r) after m = (
     refuses_as (done_bind (λ a l. bind (each s vs l) λ as' l'. done (a ∷ as') l') d.outcome) (refuses_bind (λ as' l'. done (d.value ∷ as') l') m.0),
     m.1 ∙ ap length d.words ∙ length-sets before (width * u.records) d.chunk,
   )
@@ -57,26 +58,26 @@ module _ (terms : Terms) (text : List ℕ) (s : Shape) (all : RowsIn (List (Of s
     pub stands : Standing text e left
     pub state : State
     pub tells : Tells terms text u state
-    pub rest : (r : Visit) (after : List ℕ) → Visited terms text u now all (each s (values_of left) state) r after → Visited terms text u₀ before all o r after
+    pub rest : (r : Result Used Refusal) (after : List ℕ) → Visited terms text u now all (each s (values_of left) state) r after → Visited terms text u₀ before all o r after
 
   pub going_starts : {at e : ℕ} {p : Place} {es : Elements} (u : Used) (now : List ℕ) {k : State} → Tells terms text u k → At text at (list p es) → Moves first_in text at e
       → Going u now (each s (values_of es) k) u now e
   going_starts {es = es} u now {k} t a m = record { left = es; stands = standing_first a m; state = k; tells = t; rest = λ r after v. v }
 
   module _ {u₀ u : Used} {before now : List ℕ} {o : Outcome (List (Of s))} {e : ℕ} (g : Going u₀ before o u now e) where
-    pub going_over : at_end (drop e text) ≡ true → all u.text [] u.text [] → Visited terms text u₀ before all o (Done u) now
+    pub going_over : at_end (drop e text) ≡ true → all u.text [] u.text [] → Visited terms text u₀ before all o (Ok u) now
     unfolding values_of
     going_over q h =
-        g.rest (Done u) now
+        g.rest (Ok u) now
         (subst (λ (es : Elements). Did terms text u now all (each s (values_of es) g.state) u now) (sym (standing_over g.stands q)) (none_did u now g.tells h))
 
     module _ (q : at_end (drop e text) ≡ false) where
-      pub going_refused : {n p : ℕ} (after : List ℕ) → ((t : Tree) → At text e t → Refuses text ((value_of t).read s g.state) n p) → length after ≡ length now
-          → Visited terms text u₀ before all o (Refused n p) after
+      pub going_refused : (r : Refusal) (after : List ℕ) → ((t : Tree) → At text e t → Refuses text ((value_of t).read s g.state) (number_of r.0) r.1) → length after ≡ length now
+          → Visited terms text u₀ before all o (Err r) after
       unfolding values_of
-      going_refused {n} {p} after h k =
+      going_refused r after h k =
           let x = standing_here g.stands q in
-          g.rest (Refused n p) after (
+          g.rest (Err r) after (
             refuses_as (ap (λ es. each s (values_of es) g.state) x.split)
                 (refuses_bind (λ a l. bind (each s (values_of x.rest) l) λ as' l'. done (a ∷ as') l') (h x.tree x.stands)),
             k,

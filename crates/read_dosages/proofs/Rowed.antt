@@ -6,15 +6,14 @@ use native.Mathlib.Omega.{arith}
 use lib.ListN.{length, set}
 use lib.Seq.{sets, set_comm}
 use Rattle.document.specs.Visit.{State, Outcome, done}
+use Rattle.std.specs.Prelude.{Result, Ok, Err}
 use Rattle.document.specs.Words.{width, Words, row}
 use Rattle.document.specs.Told.{Tells, Still, GoesOn, more}
+use Rattle.document.specs.declared.refusal.Refusal.{Refusal}
 use Rattle.document.specs.declared.terms.Terms.{Terms}
 use Rattle.document.specs.declared.terms.Used.{Used}
-use Rattle.read_fields.specs.Fields.{Refuses}
 use Rattle.read_dosages.specs.Visiting.{RowsIn, Did, Visited}
 use Rattle.read_dosages.specs.Kept.{Ready, Grown, Kept}
-use Rattle.read_records.specs.declared.rows.Visit.{Visit}
-use Rattle.read_records.specs.declared.rows.Visit.TheVariants.{Done, Refused}
 
 -- Stores at two places may be done in either order.
 set_before_sets : (ys l : List ℕ) (i j a : ℕ) → i < j → set (sets l j ys) i a ≡ sets (set l i a) j ys
@@ -57,15 +56,16 @@ pub count_below : {B : Type 0} {terms : Terms} {text : List ℕ} {u v : Used} {b
 count_below d n h = omega (arith, d.size)
 
 -- What is kept where a visit is refused, and where it is done.
-pub kept_refused : (terms : Terms) (least : ℕ) {before after : List ℕ} (u : Used) {r : Visit} {n p : ℕ} → r ≡ Refused n p → length after ≡ length before → Kept terms least before u r after
-kept_refused terms least u e s = record { size = s; grown = λ v d. let z : ◌≡◌ {A = ℕ} 0 1 = cc in let no : ⊥ = omega arith in absurd no }
+pub kept_refused : (terms : Terms) (least : ℕ) {before after : List ℕ} (u : Used) {r : Refusal} → length after ≡ length before → Kept terms least before u (Err r) after
+kept_refused terms least u s = record { size = s; grown = tt }
 
-pub kept_done : {terms : Terms} {least : ℕ} {before after : List ℕ} {u v : Used} {r : Visit} → r ≡ Done v → length after ≡ length before → Grown terms least u v → Kept terms least before u r after
-kept_done {terms} {least} {u = u} e s g = record { size = s; grown = λ w d. subst (λ (x : Used). Grown terms least u x) (cc) g }
+pub kept_done : {terms : Terms} {least : ℕ} {before after : List ℕ} {u v : Used} → length after ≡ length before → Grown terms least u v → Kept terms least before u (Ok v) after
+kept_done s g = record { size = s; grown = g }
 
 -- The same from as many records and text bytes.
-pub kept_still : {terms : Terms} {least : ℕ} {before after : List ℕ} {u u' : Used} {r : Visit} → Still u u' → Kept terms least before u' r after → Kept terms least before u r after
-kept_still s k = record { size = k.size; grown = λ v d. let g = k.grown v d in record { some = omega (arith, g.some, s.records); few = g.few; fits = g.fits } }
+pub kept_still : {terms : Terms} {least : ℕ} {before after : List ℕ} {u u' : Used} (r : Result Used Refusal) → Still u u' → Kept terms least before u' r after → Kept terms least before u r after
+kept_still (Ok v) s k = record { size = k.size; grown = record { some = omega (arith, k.grown.some, s.records); few = k.grown.few; fits = k.grown.fits } }
+kept_still (Err r) s k = record { size = k.size; grown = tt }
 
 pub did_still : {A : Type 0} {terms : Terms} {text : List ℕ} {u u' : Used} {before : List ℕ} {rows_in : RowsIn A} {o : Outcome A} {v : Used} {after : List ℕ}
     → Still u u' → Did terms text u' before rows_in o v after → Did terms text u before rows_in o v after
@@ -97,28 +97,14 @@ did_as e d =
     }
 
 -- A visit of what reads the same, from as many records and text bytes.
-pub visited_as : {A : Type 0} (terms : Terms) (text : List ℕ) (u : Used) (before : List ℕ) (rows_in : RowsIn A) {o o' : Outcome A} (r : Visit) (after : List ℕ)
+pub visited_as : {A : Type 0} (terms : Terms) (text : List ℕ) (u : Used) (before : List ℕ) (rows_in : RowsIn A) {o o' : Outcome A} (r : Result Used Refusal) (after : List ℕ)
     → o ≡ o' → Visited terms text u before rows_in o' r after → Visited terms text u before rows_in o r after
 visited_as terms text u before rows_in r after e v = subst (λ o. Visited terms text u before rows_in o r after) (sym e) v
 
-pub visited_still : {A : Type 0} (terms : Terms) (text : List ℕ) {u u' : Used} (before : List ℕ) (rows_in : RowsIn A) (o : Outcome A) (r : Visit) (after : List ℕ)
+pub visited_still : {A : Type 0} (terms : Terms) (text : List ℕ) {u u' : Used} (before : List ℕ) (rows_in : RowsIn A) (o : Outcome A) (r : Result Used Refusal) (after : List ℕ)
     → Still u u' → Visited terms text u' before rows_in o r after → Visited terms text u before rows_in o r after
-visited_still terms text before rows_in o (Done v) after s d = did_still s d
-visited_still terms text before rows_in o (Refused n p) after s d = d
-
--- What a visit tells, by its result, and a visit by what it tells.
-module _ {A : Type 0} (terms : Terms) (text : List ℕ) (u : Used) (before : List ℕ) (rows_in : RowsIn A) (o : Outcome A) {r : Visit} (after : List ℕ) where
-  pub visited_done : Visited terms text u before rows_in o r after → {v : Used} → r ≡ Done v → Did terms text u before rows_in o v after
-  visited_done h e = subst (λ (x : Visit). Visited terms text u before rows_in o x after) e h
-
-  pub visited_refused : Visited terms text u before rows_in o r after → {n p : ℕ} → r ≡ Refused n p → Refuses text o n p × (length after ≡ length before)
-  visited_refused h e = subst (λ (x : Visit). Visited terms text u before rows_in o x after) e h
-
-  pub done_visited : {v : Used} → r ≡ Done v → Did terms text u before rows_in o v after → Visited terms text u before rows_in o r after
-  done_visited e d = subst (λ (x : Visit). Visited terms text u before rows_in o x after) (sym e) d
-
-  pub refused_visited : {n p : ℕ} → r ≡ Refused n p → Refuses text o n p → length after ≡ length before → Visited terms text u before rows_in o r after
-  refused_visited e h s = subst (λ (x : Visit). Visited terms text u before rows_in o x after) (sym e) (h, s)
+visited_still terms text before rows_in o (Ok v) after s d = did_still s d
+visited_still terms text before rows_in o (Err r) after s d = d
 
 -- Words are ready behind as many records and text bytes, and behind one record more.
 module _ {terms : Terms} {before : List ℕ} {u v : Used} (ready : Ready terms before u) where
@@ -142,7 +128,7 @@ grown_above one g same =
     }
 
 -- A visit of what reading went on to.
-pub visited_goes : {A : Type 0} (terms : Terms) (text : List ℕ) {u u' : Used} (before : List ℕ) (rows_in : RowsIn A) {o : Outcome A} {rest : State → Outcome A} (r : Visit) (after : List ℕ)
+pub visited_goes : {A : Type 0} (terms : Terms) (text : List ℕ) {u u' : Used} (before : List ℕ) (rows_in : RowsIn A) {o : Outcome A} {rest : State → Outcome A} (r : Result Used Refusal) (after : List ℕ)
     → Still u u' → (g : GoesOn terms text o u' rest) → Visited terms text u' before rows_in (rest g.state) r after → Visited terms text u before rows_in o r after
 visited_goes terms text {u} before rows_in {rest = rest} r after s g v =
     visited_as terms text u before rows_in r after g.outcome (visited_still terms text before rows_in (rest g.state) r after s v)

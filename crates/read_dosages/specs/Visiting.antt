@@ -54,11 +54,6 @@ own_field false p f l = needed (a_number (integer 1 4)) p f l
 abbrev pub ReadsOwn : Bool → List ℕ → ℕ → Option ℕ → Used → Result Counted Refusal → Type 0
 ReadsOwn timed text brace v u r = (f : Found Value) → Slot text v f → CountsFrom text u (own_field timed (drop brace text) f) itself r
 
--- A time of day leaves what is taken alone.
-abbrev pub time_told : Result ℕ Refusal → Used → Result Counted Refusal
-time_told (Ok n) u = Ok (record { value = n; used = u })
-time_told (Err r) u = Err r
-
 -- The rows of each value. None has a string.
 abbrev pub DosageRows : RowsIn P.Dosage
 DosageRows end d at chunk = (chunk ≡ rows (all_words (dosage_row d ∷ []))) × (end ≡ at)

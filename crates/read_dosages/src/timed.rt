@@ -208,13 +208,13 @@ pub fn read_timed(
 ) -> Result<Used, Refusal>
     ensures { AnswersTimed terms text.now brace v parent used words.old result words.new }
 {
-    let lent = words.len() == WORDS
+    if words.len() == WORDS
         && used.records <= RECORDS
         && used.text <= terms.room
         && brace <= text.len()
-        && parent <= UNDER_MONTHS;
-    if !lent {
-        return Err(Refusal(Reason::Unasked, 0));
+        && parent <= UNDER_MONTHS
+    {
+        return timed_field(text, brace, v, parent, terms, used, words);
     }
-    timed_field(text, brace, v, parent, terms, used, words)
+    Err(Refusal(Reason::Unasked, 0))
 }

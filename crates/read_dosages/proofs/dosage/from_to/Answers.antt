@@ -1,6 +1,5 @@
--- `read_dosages::dosage::from_to` meets its contract: a dosage of type 2, field by field.
+-- A dosage of type 2, field by field.
 use mathlib.Core.Path.{refl, ap, sym, ◌∙◌}
-use native.Mathlib.Omega.{arith}
 use lib.ListN.{length, length-set}
 use borrow.Author.Tests.{le-ltb, lt-ltb}
 use Rattle.document.specs.Posology as P
@@ -9,89 +8,95 @@ use Rattle.document.specs.Visit.{entries_of}
 use Rattle.document.specs.Words.{words}
 use Rattle.document.proofs.Taken.{one_more_lem, still_same, still_then}
 use Rattle.read_names.specs.Names.{names, name_at}
+use Rattle.read_names.specs.declared.names.Name.TheVariants as N
+use Rattle.read_fields.proofs.Refusals.{raised}
 use Rattle.read_records.proofs.Records.{stores}
+use Rattle.read_type.proofs.Typed.{slot_of}
 use Rattle.read_dosages.proofs.Rowed.{kept_refused, kept_done, one_grown}
 use Rattle.read_dosages.proofs.Bodies.{object_at, body_opens, body_unknown, took_number, stopped_number, took_integer, stopped_integer, guard_holds, guard_fails}
 use Rattle.read_dosages.proofs.Chunks.{dosage_did}
 use Rattle.read_dosages.proofs.Known.{from_to_known}
 use Rattle.read_dosages.proofs.dosage.from_to.Goals as goal
 
-pub returns-in-At : goal.returns-in-At
-returns-in-At c =
-    record { visits_typed = λ l tells p ms a once. (body_unknown from_to_known tells c.requires.1 p (entries_of ms) _ (c.unknown_name.ensures refl p ms a once) c.in-At.is, refl); kept = kept_refused c.args.terms 1 c.args.used refl refl }
+pub returns-in_err-knows_all : goal.returns-in_err-knows_all
+returns-in_err-knows_all c =
+    rw (raised c.from_residual.result c.from_residual.ensures.1) (record {
+      visits_typed = λ l tells p ms a once. (body_unknown from_to_known tells c.requires.1 p (entries_of ms) c.in_err-knows_all.field-0.0 (c.in_err-knows_all.ensures refl p ms a once), refl);
+      kept = kept_refused c.args.terms 1 c.args.used refl;
+    })
 
-pub returns-in_default-f : goal.returns-in_default-f
+pub returns-in_err-from : goal.returns-in_err-from
 unfolding rows_of from_to_rows name_at names
-returns-in_default-f c =
-    let up = c.up.ensures _ _ c.in_default-f.is in record {
+returns-in_err-from c =
+    rw (raised c.from_residual-in_err-from.result c.from_residual-in_err-from.ensures.1) (record {
       visits_typed = λ l tells p ms a once.
-          let b = body_opens from_to_known tells c.requires.1 p (entries_of ms) _ (c.unknown_name.ensures refl p ms a once) c.in_default.is refl (object_at a) in
-          rw up (stopped_number b _ (c.decimal_field-f.ensures c.requires.2 _ (once.slot 16 (omega arith))) c.in_default-f.is, refl);
-      kept = kept_refused c.args.terms 1 c.args.used up refl;
-    }
+          let b = body_opens from_to_known tells c.requires.1 p (entries_of ms) (c.in_ok-knows_all.ensures refl p ms a once) refl (object_at a) in
+          (stopped_number b c.in_err-from.field-0.0 (c.in_err-from.ensures c.requires.2 _ (slot_of N.AFrom once c.at.ensures)), refl);
+      kept = kept_refused c.args.terms 1 c.args.used refl;
+    })
 
-pub returns-in_default-f-2 : goal.returns-in_default-f-2
+pub returns-in_err-to : goal.returns-in_err-to
 unfolding rows_of from_to_rows name_at names
-returns-in_default-f-2 c =
-    let up = c.up-in_default-f-2.ensures _ _ c.in_default-f-2.is in record {
+returns-in_err-to c =
+    rw (raised c.from_residual-in_err-to.result c.from_residual-in_err-to.ensures.1) (record {
       visits_typed = λ l tells p ms a once.
-          let b = body_opens from_to_known tells c.requires.1 p (entries_of ms) _ (c.unknown_name.ensures refl p ms a once) c.in_default.is refl (object_at a) in
-          let b1 = took_number b _ (c.decimal_field-f.ensures c.requires.2 _ (once.slot 16 (omega arith))) c.in-Is.is in
-          rw up (stopped_number b1 _ (c.decimal_field-f-2.ensures c.requires.2 _ (once.slot 17 (omega arith))) c.in_default-f-2.is, refl);
-      kept = kept_refused c.args.terms 1 c.args.used up refl;
-    }
+          let b = body_opens from_to_known tells c.requires.1 p (entries_of ms) (c.in_ok-knows_all.ensures refl p ms a once) refl (object_at a) in
+          let b1 = took_number b c.in_ok-from.from (c.in_ok-from.ensures c.requires.2 _ (slot_of N.AFrom once c.at.ensures)) in
+          (stopped_number b1 c.in_err-to.field-0.0 (c.in_err-to.ensures c.requires.2 _ (slot_of N.ATo once c.at-2.ensures)), refl);
+      kept = kept_refused c.args.terms 1 c.args.used refl;
+    })
 
-pub returns-in_default-f-3 : goal.returns-in_default-f-3
+pub returns-in_err-unit : goal.returns-in_err-unit
 unfolding rows_of from_to_rows name_at names
-returns-in_default-f-3 c =
-    let up = c.up_counted.ensures _ _ c.in_default-f-3.is in record {
+returns-in_err-unit c =
+    rw (raised c.from_residual-in_err-unit.result c.from_residual-in_err-unit.ensures.1) (record {
       visits_typed = λ l tells p ms a once.
-          let b = body_opens from_to_known tells c.requires.1 p (entries_of ms) _ (c.unknown_name.ensures refl p ms a once) c.in_default.is (one_more_lem c.requires.1 c.one_more-used.ensures) (object_at a) in
-          let b1 = took_number b _ (c.decimal_field-f.ensures c.requires.2 _ (once.slot 16 (omega arith))) c.in-Is.is in
-          let b2 = took_number b1 _ (c.decimal_field-f-2.ensures c.requires.2 _ (once.slot 17 (omega arith))) c.in-Is-f.is in
-          rw up (stopped_integer b2 _ (c.integer_field-f.ensures.counts_needed c.requires.2 _ (once.slot 18 (omega arith))) c.in_default-f-3.is, refl);
-      kept = kept_refused c.args.terms 1 c.args.used up refl;
-    }
+          let b = body_opens from_to_known tells c.requires.1 p (entries_of ms) (c.in_ok-knows_all.ensures refl p ms a once) (one_more_lem c.requires.1 c.one_more-used.ensures) (object_at a) in
+          let b1 = took_number b c.in_ok-from.from (c.in_ok-from.ensures c.requires.2 _ (slot_of N.AFrom once c.at.ensures)) in
+          let b2 = took_number b1 c.in_ok-to.to (c.in_ok-to.ensures c.requires.2 _ (slot_of N.ATo once c.at-2.ensures)) in
+          (stopped_integer b2 c.in_err-unit.field-0.0 (c.in_err-unit.ensures.counts_needed c.requires.2 _ (slot_of N.DuU once c.at-3.ensures)), refl);
+      kept = kept_refused c.args.terms 1 c.args.used refl;
+    })
 
-pub returns-in_default-f-4 : goal.returns-in_default-f-4
+pub returns-in_err-span : goal.returns-in_err-span
 unfolding rows_of from_to_rows name_at names
-returns-in_default-f-4 c =
-    let up = c.up_counted-in_default-f-4.ensures _ _ c.in_default-f-4.is in record {
+returns-in_err-span c =
+    rw (raised c.from_residual-in_err-span.result c.from_residual-in_err-span.ensures.1) (record {
       visits_typed = λ l tells p ms a once.
-          let b = body_opens from_to_known tells c.requires.1 p (entries_of ms) _ (c.unknown_name.ensures refl p ms a once) c.in_default.is (one_more_lem c.requires.1 c.one_more-used.ensures) (object_at a) in
-          let b1 = took_number b _ (c.decimal_field-f.ensures c.requires.2 _ (once.slot 16 (omega arith))) c.in-Is.is in
-          let b2 = took_number b1 _ (c.decimal_field-f-2.ensures c.requires.2 _ (once.slot 17 (omega arith))) c.in-Is-f.is in
-          let b3 = took_integer b2 _ (c.integer_field-f.ensures.counts_needed c.requires.2 _ (once.slot 18 (omega arith))) c.in-Is-f-2.is in
-          rw up (stopped_integer b3 _ (c.integer_field-f-2.ensures.counts_needed c.requires.2 _ (once.slot 19 (omega arith))) c.in_default-f-4.is, refl);
-      kept = kept_refused c.args.terms 1 c.args.used up refl;
-    }
+          let b = body_opens from_to_known tells c.requires.1 p (entries_of ms) (c.in_ok-knows_all.ensures refl p ms a once) (one_more_lem c.requires.1 c.one_more-used.ensures) (object_at a) in
+          let b1 = took_number b c.in_ok-from.from (c.in_ok-from.ensures c.requires.2 _ (slot_of N.AFrom once c.at.ensures)) in
+          let b2 = took_number b1 c.in_ok-to.to (c.in_ok-to.ensures c.requires.2 _ (slot_of N.ATo once c.at-2.ensures)) in
+          let b3 = took_integer b2 c.in_ok-unit.unit (c.in_ok-unit.ensures.counts_needed c.requires.2 _ (slot_of N.DuU once c.at-3.ensures)) in
+          (stopped_integer b3 c.in_err-span.field-0.0 (c.in_err-span.ensures.counts_needed c.requires.2 _ (slot_of N.Du once c.at-4.ensures)), refl);
+      kept = kept_refused c.args.terms 1 c.args.used refl;
+    })
 
 pub returns-then-to-from : goal.returns-then-to-from
 unfolding rows_of from_to_rows name_at names
 returns-then-to-from c =
     record {
       visits_typed = λ l tells p ms a once.
-          let b = body_opens from_to_known tells c.requires.1 p (entries_of ms) _ (c.unknown_name.ensures refl p ms a once) c.in_default.is (one_more_lem c.requires.1 c.one_more-used.ensures) (object_at a) in
-          let b1 = took_number b _ (c.decimal_field-f.ensures c.requires.2 _ (once.slot 16 (omega arith))) c.in-Is.is in
-          let b2 = took_number b1 _ (c.decimal_field-f-2.ensures c.requires.2 _ (once.slot 17 (omega arith))) c.in-Is-f.is in
-          let b3 = took_integer b2 _ (c.integer_field-f.ensures.counts_needed c.requires.2 _ (once.slot 18 (omega arith))) c.in-Is-f-2.is in
-          let b4 = took_integer b3 _ (c.integer_field-f-2.ensures.counts_needed c.requires.2 _ (once.slot 19 (omega arith))) c.in-Is-f-3.is in
+          let b = body_opens from_to_known tells c.requires.1 p (entries_of ms) (c.in_ok-knows_all.ensures refl p ms a once) (one_more_lem c.requires.1 c.one_more-used.ensures) (object_at a) in
+          let b1 = took_number b c.in_ok-from.from (c.in_ok-from.ensures c.requires.2 _ (slot_of N.AFrom once c.at.ensures)) in
+          let b2 = took_number b1 c.in_ok-to.to (c.in_ok-to.ensures c.requires.2 _ (slot_of N.ATo once c.at-2.ensures)) in
+          let b3 = took_integer b2 c.in_ok-unit.unit (c.in_ok-unit.ensures.counts_needed c.requires.2 _ (slot_of N.DuU once c.at-3.ensures)) in
+          let b4 = took_integer b3 c.in_ok-span.span (c.in_ok-span.ensures.counts_needed c.requires.2 _ (slot_of N.Du once c.at-4.ensures)) in
           (record { outcome = b4.outcome ∙ guard_fails 12 _ _ (le-ltb _ _ c.if-to-from.true); inside = c.requires.2 }, refl);
-      kept = kept_refused c.args.terms 1 c.args.used refl refl;
+      kept = kept_refused c.args.terms 1 c.args.used refl;
     }
 
 pub returns : goal.returns
 unfolding rows_of from_to_rows name_at names
 returns c =
     let one = one_more_lem c.requires.1 c.one_more-used.ensures in
-    let still = still_then (still_same (sym one)) (still_then (c.integer_field-f.ensures.counts_still _ _ c.in-Is-f-2.is) (c.integer_field-f-2.ensures.counts_still _ _ c.in-Is-f-3.is)) in
-    let kept = stores _ _ (words _ 13 _ _ _ _) c.requires.0.size c.requires.1 (c.store.ensures.value, c.store.ensures.words_after) in record {
+    let still = still_then (still_same (sym one)) (still_then c.in_ok-unit.ensures.counts_still c.in_ok-span.ensures.counts_still) in
+    let put = stores _ _ (words _ 13 _ _ _ _) c.requires.0.size c.requires.1 c.store.ensures in record {
       visits_typed = λ l tells p ms a once.
-          let b = body_opens from_to_known tells c.requires.1 p (entries_of ms) _ (c.unknown_name.ensures refl p ms a once) c.in_default.is one (object_at a) in
-          let b1 = took_number b _ (c.decimal_field-f.ensures c.requires.2 _ (once.slot 16 (omega arith))) c.in-Is.is in
-          let b2 = took_number b1 _ (c.decimal_field-f-2.ensures c.requires.2 _ (once.slot 17 (omega arith))) c.in-Is-f.is in
-          let b3 = took_integer b2 _ (c.integer_field-f.ensures.counts_needed c.requires.2 _ (once.slot 18 (omega arith))) c.in-Is-f-2.is in
-          let b4 = took_integer b3 _ (c.integer_field-f-2.ensures.counts_needed c.requires.2 _ (once.slot 19 (omega arith))) c.in-Is-f-3.is in
-          rw kept.0 (dosage_did (P.from_to _ _ _ _) (b4.outcome ∙ guard_holds 12 _ (lt-ltb _ _ c.if-to-from.false)) b4.tells still kept.1);
-      kept = kept_done kept.0 (simp length-set at (ap length kept.1)) (one_grown c.requires.0 c.requires.1 still);
+          let b = body_opens from_to_known tells c.requires.1 p (entries_of ms) (c.in_ok-knows_all.ensures refl p ms a once) one (object_at a) in
+          let b1 = took_number b c.in_ok-from.from (c.in_ok-from.ensures c.requires.2 _ (slot_of N.AFrom once c.at.ensures)) in
+          let b2 = took_number b1 c.in_ok-to.to (c.in_ok-to.ensures c.requires.2 _ (slot_of N.ATo once c.at-2.ensures)) in
+          let b3 = took_integer b2 c.in_ok-unit.unit (c.in_ok-unit.ensures.counts_needed c.requires.2 _ (slot_of N.DuU once c.at-3.ensures)) in
+          let b4 = took_integer b3 c.in_ok-span.span (c.in_ok-span.ensures.counts_needed c.requires.2 _ (slot_of N.Du once c.at-4.ensures)) in
+          dosage_did (P.from_to _ _ _ _) (b4.outcome ∙ guard_holds 12 _ (lt-ltb _ _ c.if-to-from.false)) b4.tells still put;
+      kept = kept_done (simp length-set at (ap length put)) (one_grown c.requires.0 c.requires.1 still);
     }

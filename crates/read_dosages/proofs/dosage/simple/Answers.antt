@@ -1,6 +1,5 @@
--- `read_dosages::dosage::simple` meets its contract: a dosage of type 1.
+-- A dosage of type 1.
 use mathlib.Core.Path.{refl, ap, sym}
-use native.Mathlib.Omega.{arith}
 use lib.ListN.{length, length-set}
 use Rattle.document.specs.Posology as P
 use Rattle.document.specs.Schema.{rows_of, simple_rows}
@@ -8,36 +7,42 @@ use Rattle.document.specs.Visit.{entries_of}
 use Rattle.document.specs.Words.{words}
 use Rattle.document.proofs.Taken.{one_more_lem, still_same}
 use Rattle.read_names.specs.Names.{names, name_at}
+use Rattle.read_names.specs.declared.names.Name.TheVariants as N
+use Rattle.read_fields.proofs.Refusals.{raised}
 use Rattle.read_records.proofs.Records.{stores}
+use Rattle.read_type.proofs.Typed.{slot_of}
 use Rattle.read_dosages.proofs.Rowed.{kept_refused, kept_done, one_grown}
 use Rattle.read_dosages.proofs.Bodies.{object_at, body_opens, body_unknown, took_number, stopped_number}
 use Rattle.read_dosages.proofs.Chunks.{dosage_did}
 use Rattle.read_dosages.proofs.Known.{simple_known}
 use Rattle.read_dosages.proofs.dosage.simple.Goals as goal
 
-pub returns-in-At : goal.returns-in-At
-returns-in-At c =
-    record { visits_typed = λ l tells p ms a once. (body_unknown simple_known tells c.requires.1 p (entries_of ms) _ (c.unknown_name.ensures refl p ms a once) c.in-At.is, refl); kept = kept_refused c.args.terms 1 c.args.used refl refl }
+pub returns-in_err-knows_all : goal.returns-in_err-knows_all
+returns-in_err-knows_all c =
+    rw (raised c.from_residual.result c.from_residual.ensures.1) (record {
+      visits_typed = λ l tells p ms a once. (body_unknown simple_known tells c.requires.1 p (entries_of ms) c.in_err-knows_all.field-0.0 (c.in_err-knows_all.ensures refl p ms a once), refl);
+      kept = kept_refused c.args.terms 1 c.args.used refl;
+    })
 
-pub returns-in_default-f : goal.returns-in_default-f
+pub returns-in_err-amount : goal.returns-in_err-amount
 unfolding rows_of simple_rows name_at names
-returns-in_default-f c =
-    let up = c.up.ensures _ _ c.in_default-f.is in record {
+returns-in_err-amount c =
+    rw (raised c.from_residual-in_err-amount.result c.from_residual-in_err-amount.ensures.1) (record {
       visits_typed = λ l tells p ms a once.
-          let b = body_opens simple_known tells c.requires.1 p (entries_of ms) _ (c.unknown_name.ensures refl p ms a once) c.in_default.is refl (object_at a) in
-          rw up (stopped_number b _ (c.decimal_field-f.ensures c.requires.2 _ (once.slot 15 (omega arith))) c.in_default-f.is, refl);
-      kept = kept_refused c.args.terms 1 c.args.used up refl;
-    }
+          let b = body_opens simple_known tells c.requires.1 p (entries_of ms) (c.in_ok-knows_all.ensures refl p ms a once) refl (object_at a) in
+          (stopped_number b c.in_err-amount.field-0.0 (c.in_err-amount.ensures c.requires.2 _ (slot_of N.A once c.at.ensures)), refl);
+      kept = kept_refused c.args.terms 1 c.args.used refl;
+    })
 
 pub returns : goal.returns
 unfolding rows_of simple_rows name_at names
 returns c =
-    let one = one_more_lem c.requires.1 c.one_more.ensures in
+    let one = one_more_lem c.requires.1 c.one_more-used.ensures in
     let still = still_same (sym one) in
-    let kept = stores _ _ (words _ 12 _ 0 0 0) c.requires.0.size c.requires.1 (c.store.ensures.value, c.store.ensures.words_after) in record {
+    let put = stores _ _ (words _ 12 _ 0 0 0) c.requires.0.size c.requires.1 c.store.ensures in record {
       visits_typed = λ l tells p ms a once.
-          let b = body_opens simple_known tells c.requires.1 p (entries_of ms) _ (c.unknown_name.ensures refl p ms a once) c.in_default.is one (object_at a) in
-          let b1 = took_number b _ (c.decimal_field-f.ensures c.requires.2 _ (once.slot 15 (omega arith))) c.in-Is.is in
-          rw kept.0 (dosage_did (P.simple _) b1.outcome b1.tells still kept.1);
-      kept = kept_done kept.0 (simp length-set at (ap length kept.1)) (one_grown c.requires.0 c.requires.1 still);
+          let b = body_opens simple_known tells c.requires.1 p (entries_of ms) (c.in_ok-knows_all.ensures refl p ms a once) one (object_at a) in
+          let b1 = took_number b c.in_ok-amount.amount (c.in_ok-amount.ensures c.requires.2 _ (slot_of N.A once c.at.ensures)) in
+          dosage_did (P.simple _) b1.outcome b1.tells still put;
+      kept = kept_done (simp length-set at (ap length put)) (one_grown c.requires.0 c.requires.1 still);
     }

@@ -12,7 +12,7 @@ use Rattle.read_dosages.proofs.timed.plain_timed.Goals as goal
 
 pub applications-requires : goal.applications-requires
 applications-requires c =
-    (c.requires.0, c.requires.1, c.requires.2, omega (arith, c.requires.3, c.in_default.in_default-own.rest.1), c.requires.4)
+    (c.requires.0, c.requires.1, c.requires.2, omega (arith, c.requires.3), c.requires.4)
 
 pub returns-in-1 : goal.returns-in-1
 returns-in-1 c =
