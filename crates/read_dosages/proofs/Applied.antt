@@ -3,7 +3,6 @@ use Prim.Native.Nat.{ℕ, ◌*◌, ◌-◌}
 use mathlib.Core.Path.{◌≡◌, refl, ap, ◌∙◌}
 use mathlib.Core.List.{List, []}
 use mathlib.Core.Bool.{Bool, true, cond}
-use native.Mathlib.Omega.{arith}
 use lib.Seq.{sets}
 use Rattle.std.specs.Prelude.{Option, Ok, Err}
 use Rattle.json_grammar.specs.Tree.{Place}
@@ -11,7 +10,7 @@ use Rattle.document.specs.Posology as P
 use Rattle.document.specs.Lookup.{Entry, find}
 use Rattle.document.specs.Schema.{a_dosage, an_object, OfFamily, rows_of}
 use Rattle.document.specs.Visit.{State, Outcome, done, bind, needed, Value}
-use Rattle.document.specs.Told.{more, Still, Hands, GoesOn}
+use Rattle.document.specs.Told.{more, Still, GoesOn}
 use Rattle.document.specs.Words.{width, words, row}
 use Rattle.document.specs.Refusals.{number_of}
 use Rattle.document.specs.declared.refusal.Refusal.{Refusal}

@@ -6,13 +6,13 @@ use mathlib.Core.List.{List, [], ◌∷◌, ◌++◌}
 use mathlib.Core.Bool.{Bool, true, false}
 use mathlib.Core.Option.{Option, none}
 use lib.ListN.{length, drop}
-use Rattle.std.specs.Prelude.{Result, Ok, Err}
+use Rattle.std.specs.Prelude.{Ok, Err}
 use Rattle.json_grammar.specs.Tree.{Place, object, list, Members, Elements}
 use Rattle.json_grammar.specs.Grammar.{Value, an_empty_object, an_object, an_empty_list, a_list}
 use Rattle.document.specs.Bytes.{bytes}
 use Rattle.document.specs.Lookup.{Entry, find, unknown}
 use Rattle.document.specs.Schema.{Family, Shape, NumberShape, a_number, Of, Rows, need, may, a_timed, rows_of, types_of, is_record, may_stand, may_open, names}
-use Rattle.document.specs.Visit.{State, opened, Outcome, done, refuse, bind, guard, unless, needed, optional, fields, body, members, entries_of, Value as Waits}
+use Rattle.document.specs.Visit.{State, opened, Outcome, done, refuse, bind, guard, unless, needed, optional, fields, body, members, Value as Waits}
 use Rattle.document.specs.At.{At}
 use Rattle.document.specs.Told.{Tells, more, Hands, GoesOn}
 use Rattle.document.specs.Refusals.{number_of}

@@ -1,20 +1,18 @@
 -- The names and the fields of each object's rows.
 use Prim.Native.Nat.{ℕ}
-use mathlib.Core.Path.{◌≡◌, refl, ap, sym, ◌∙◌, subst}
+use mathlib.Core.Path.{◌≡◌, refl, sym, subst}
 use mathlib.Core.List.{List, [], ◌∷◌}
 use mathlib.Core.Bool.{Bool, true, false, cond}
-use lib.Dec.{ltb}
 use Rattle.json_grammar.specs.Tree.{Place}
 use Rattle.document.specs.Bytes.{bytes}
-use Rattle.document.specs.Posology as P
 use Rattle.document.specs.Lookup.{Entry, find}
-use Rattle.document.specs.Schema.{a_timed, a_dosage, integer, decimal, a_number, an_object, a_list, days, any_objects, under_days, rows_of, types_of, dosage_only_rows, times_rows, day_segments_rows, week_days_rows, days_of_month_rows, interval_rows, simple_rows, from_to_rows, range_rows, at_time_rows, in_segment_rows}
-use Rattle.document.specs.Visit.{State, done, bind, guard, needed, fields, Value}
+use Rattle.document.specs.Schema.{a_timed, a_dosage, an_object, rows_of, types_of, dosage_only_rows, times_rows, day_segments_rows, week_days_rows, days_of_month_rows, interval_rows, simple_rows, from_to_rows, range_rows, at_time_rows, in_segment_rows}
+use Rattle.document.specs.Visit.{State, done, bind, needed, fields, Value}
 use Rattle.read_names.specs.Names.{names, name_at, spelled, is_row}
 use Rattle.read_names.specs.declared.names.Name.{Name}
 use Rattle.read_names.specs.declared.names.Name.TheVariants as N
 use Rattle.read_dosages.specs.Visiting.{an_application, own_field}
-use Rattle.read_dosages.proofs.Alike.{application, with_applications, on_days, either}
+use Rattle.read_dosages.proofs.Alike.{application, either}
 use Rattle.read_dosages.proofs.Bodies.{Known}
 
 -- Dosages

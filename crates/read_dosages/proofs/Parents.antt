@@ -3,16 +3,14 @@ use Prim.Native.Nat.{ℕ, ◌<◌, ◌≤◌}
 use mathlib.Core.Path.{◌≡◌, refl, ap, ◌∙◌}
 use mathlib.Core.List.{List, [], ◌∷◌}
 use mathlib.Core.Bool.{true, false}
-use native.Mathlib.Omega.{arith}
 use lib.ListN.{length, drop}
 use Rattle.std.specs.Prelude.{Option, Result, Ok, Err}
-use Rattle.json_grammar.specs.Tree.{Place, object, Members}
 use Rattle.document.specs.Bytes.{bytes}
 use Rattle.document.specs.Date.{among}
 use Rattle.document.specs.Lookup.{Entry, Found}
 use Rattle.document.specs.Schema.{a_timed, an_object}
 use Rattle.document.specs.Visit.{State, needed, members, entries_of, Value as Waits}
-use Rattle.document.specs.At.{At, Slot}
+use Rattle.document.specs.At.{Slot}
 use Rattle.document.specs.Told.{Tells, Still}
 use Rattle.document.specs.Refusals.{number_of}
 use Rattle.document.specs.declared.refusal.Refusal.{Refusal}

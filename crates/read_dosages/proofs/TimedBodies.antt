@@ -1,10 +1,9 @@
 -- The bodies of timed dosages, by the answers of their parts.
 use Prim.Native.Nat.{ℕ, ◌+◌, ◌*◌, ◌-◌, ◌<◌}
-use mathlib.Core.Path.{◌≡◌, refl, ap, sym, subst, ◌∙◌}
+use mathlib.Core.Path.{◌≡◌, refl, ap, subst, ◌∙◌}
 use mathlib.Core.Option.{none}
 use mathlib.Core.List.{List, [], ◌∷◌}
 use mathlib.Core.Bool.{Bool, true, false, cond}
-use native.Mathlib.Omega.{arith}
 use lib.ListN.{length, drop}
 use lib.Seq.{sets}
 use Rattle.std.specs.Prelude.{Option, Result, Ok, Err}
@@ -27,7 +26,7 @@ use Rattle.read_names.specs.Names.{Once, place_of, row_names, spelled, name_at, 
 use Rattle.read_names.specs.declared.names.Name.{Name}
 use Rattle.read_names.specs.declared.names.Name.TheVariants as N
 use Rattle.read_names.specs.declared.slots.Object.{Object}
-use Rattle.read_fields.specs.Fields.{Refuses, CountsNeeded, ListNeeded, Listing}
+use Rattle.read_fields.specs.Fields.{Refuses, CountsNeeded, ListNeeded}
 use Rattle.read_fields.specs.Dates.{ReadsDays}
 use Rattle.read_fields.specs.declared.field.Counted.{Counted}
 use Rattle.read_type.proofs.Typed.{slot_of}

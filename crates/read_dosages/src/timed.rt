@@ -87,7 +87,14 @@ fn applications(
     Ok(used)
 }
 
-fn interval(text: &[u8], at: usize, o: &Object, terms: Terms, used: Used, words: &mut [u64]) -> Result<Used, Refusal>
+fn interval(
+    text: &[u8],
+    at: usize,
+    o: &Object,
+    terms: Terms,
+    used: Used,
+    words: &mut [u64],
+) -> Result<Used, Refusal>
     requires { Ready terms words.old used × (used.records < 64) × (at ≤ length text.now) }
     ensures by_index { (ts : List ℕ) → VisitsTyped terms (a_timed ts) 6 TimedRows text.now at o.now used words.old result words.new }
     ensures kept { Kept terms 1 words.old used result words.new }

@@ -1,3 +1,3 @@
--- What the proofs of several functions use.
-mod Typed
+-- What the proofs of several functions use, and what those of the crates above cite: the slot of a name.
+pub mod Typed
 mod Opening

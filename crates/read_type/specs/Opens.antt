@@ -58,14 +58,14 @@ OpensTyped types text at u r = (p : Place) (ms : Members) → At text at (object
 abbrev pub OpensStill : Used → Result Opened Refusal → Type 0
 OpensStill u r = IfOk r λ o. Still u o.used
 
--- The same without a type.
+-- The same without a type. A name that stands twice is refused in every family.
 pub record Plain (text : List ℕ) (at : ℕ) (es : List (Entry Value)) (o : Object) : Type 0 where
   pub settled : Once text es o
   pub opens : (f : Family) → types_of f ≡ 0 → (s : State) → members f (drop at text) es s ≡ body f 0 [] (drop at text) es s
 
 abbrev pub OpensAs : List ℕ → ℕ → List (Entry Value) → Result Object Refusal → Type 0
 OpensAs text at es (Ok o) = Plain text at es o
-OpensAs text at es (Err r) = (f : Family) → types_of f ≡ 0 → (s : State) → Refuses text (members f (drop at text) es s) (number_of r.0) r.1
+OpensAs text at es (Err r) = (f : Family) (s : State) → Refuses text (members f (drop at text) es s) (number_of r.0) r.1
 
 abbrev pub OpensPlain : List ℕ → ℕ → Result Object Refusal → Type 0
 OpensPlain text at r = (p : Place) (ms : Members) → At text at (object p ms) → OpensAs text at (entries_of ms) r

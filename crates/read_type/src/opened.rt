@@ -52,10 +52,10 @@ pub fn type_place(o: &Object) -> usize
 }
 
 // Names that are none of the object's: 5.
-pub fn knows_all(text: &[u8], at: usize, object: &Object, known: &[Name]) -> Result<(), Refusal>
-    ensures { is_row known.now ≡ true → (p : Place) (ms : Members) → At text.now at (object p ms) → Once text.now (entries_of ms) object.now → KnowsAll text.now (unknown (row_names known.now) (entries_of ms)) result }
+pub fn knows_all(text: &[u8], at: usize, settled: &Object, known: &[Name]) -> Result<(), Refusal>
+    ensures { is_row known.now ≡ true → (p : Place) (ms : Members) → At text.now at (object p ms) → Once text.now (entries_of ms) settled.now → KnowsAll text.now (unknown (row_names known.now) (entries_of ms)) result }
 {
-    match read_names::unknown_name(text, at, object, known) {
+    match read_names::unknown_name(text, at, settled, known) {
         Some(quote) => Err(Refusal(Reason::UnknownName, quote)),
         None => Ok(()),
     }

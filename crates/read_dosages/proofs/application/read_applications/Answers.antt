@@ -1,8 +1,6 @@
 -- Each turn of the loop reads one element, and what is left settles the whole list.
 use mathlib.Core.Path.{refl, sym, ◌∙◌}
 use native.Mathlib.Omega.{arith}
-use Rattle.document.specs.Schema.{an_object}
-use Rattle.document.specs.Visit.{value_of}
 use Rattle.read_fields.proofs.Refusals.{refuses_as, raised}
 use Rattle.read_dosages.specs.Visiting.{an_application, ApplicationRows}
 use Rattle.read_dosages.proofs.Rowed.{did_as, kept_refused, kept_done}

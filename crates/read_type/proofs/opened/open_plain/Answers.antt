@@ -1,11 +1,12 @@
 -- A name stands twice, or the object is opened.
-use Rattle.read_type.proofs.Opening.{plain_twice, plain_opened, plain_still, refused_still}
+use Rattle.document.specs.Visit.{entries_of}
+use Rattle.read_type.proofs.Opening.{twice_refused, plain_opened}
 use Rattle.read_type.proofs.opened.open_plain.Goals as goal
 
-pub returns-then-seen : goal.returns-then-seen
-returns-then-seen c =
-    record { opens_plain = plain_twice c.settle-seen.ensures c.if-seen.true c.refused.result c.refused.ensures _; opens_still = refused_still c.refused.result _ c.refused.ensures }
+pub returns-in-Ok : goal.returns-in-Ok
+returns-in-Ok c p ms a =
+    plain_opened c.args.at (c.in-Ok.ensures p ms a)
 
-pub returns : goal.returns
-returns c =
-    record { opens_plain = plain_opened c.settle-seen.ensures c.if-seen.false c.args.used; opens_still = plain_still c.args.used c.settle-seen.result }
+pub returns-in-Err : goal.returns-in-Err
+returns-in-Err c p ms a =
+    twice_refused (entries_of ms) c.args.at (c.in-Err.ensures p ms a)

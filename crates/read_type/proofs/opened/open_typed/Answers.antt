@@ -1,15 +1,18 @@
 -- A name stands twice, or the type is refused, or the object is opened.
-use Rattle.read_type.proofs.Opening.{typed_twice, typed_refused, typed_opened, typed_still, refused_still}
+use native.Mathlib.Omega.{arith}
+use Rattle.read_fields.proofs.Refusals.{raised}
+use Rattle.read_type.proofs.Opening.{typed_refused, typed_opened}
 use Rattle.read_type.proofs.opened.open_typed.Goals as goal
 
-pub returns-then-seen : goal.returns-then-seen
-returns-then-seen c =
-    record { opens_typed = λ some. typed_twice c.settle-seen.ensures c.if-seen.true c.refused.result c.refused.ensures _ _; opens_still = refused_still c.refused.result _ c.refused.ensures }
+pub returns-in_err-object-clause-opens_typed : goal.returns-in_err-object-clause-opens_typed
+returns-in_err-object-clause-opens_typed c some p ms a =
+    rw (raised c.from_residual.result c.from_residual.ensures.1) (λ f t terms l told. c.in_err-object.ensures p ms a f l)
 
-pub returns-in_default : goal.returns-in_default
-returns-in_default c =
-    record { opens_typed = λ some. typed_refused c.settle-seen.ensures c.if-seen.false c.args.types some c.args.used c.integer_field-f.result c.integer_field-f.ensures.counts_needed c.no_type.result c.in_default.is (c.no_type.ensures _ _ c.in_default.is); opens_still = refused_still c.no_type.result _ (c.no_type.ensures _ _ c.in_default.is) }
+pub returns-in_err-t-clause-opens_typed : goal.returns-in_err-t-clause-opens_typed
+returns-in_err-t-clause-opens_typed c some p ms a =
+    rw (raised c.from_residual-in_err-t.result c.from_residual-in_err-t.ensures.1)
+    (typed_refused c.args.at (c.in_ok-object.ensures p ms a).settled c.args.types some c.args.used c.at.ensures c.in_err-t.field-0.0 (c.in_err-t.ensures.counts_needed (omega (arith, a.inside))))
 
-pub returns : goal.returns
-returns c =
-    record { opens_typed = λ some. typed_opened c.settle-seen.ensures c.if-seen.false c.args.types some c.args.used c.integer_field-f.result c.integer_field-f.ensures.counts_needed c.integer_field-f.ensures.counts_within c.in-Is.is; opens_still = typed_still c.settle-seen.result c.integer_field-f.ensures.counts_still c.in-Is.is }
+pub returns-clause-opens_typed : goal.returns-clause-opens_typed
+returns-clause-opens_typed c some p ms a =
+    typed_opened c.args.at (c.in_ok-object.ensures p ms a).settled c.args.types some c.args.used c.at.ensures c.in_ok-t.t (c.in_ok-t.ensures.counts_needed (omega (arith, a.inside))) c.in_ok-t.ensures.counts_within
