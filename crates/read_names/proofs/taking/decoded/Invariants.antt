@@ -1,7 +1,7 @@
 -- The bytes passed are taken, and the rest is ahead.
 use lib.ListN.{drop}
 use Rattle.json_move.specs.Read.{decoded}
-use Rattle.json_decode.specs.Characters.{ahead}
+use Rattle.json_decode.specs.Bytes.{ahead}
 use Rattle.read_names.proofs.Letters.{Ahead}
 use Rattle.read_names.proofs.taking.decoded.Given as goal
 
