@@ -20,7 +20,9 @@ use Rattle.document.specs.Write.{writes, refuses, write, fitting, write_values, 
 use Rattle.document.specs.Length.{greatest_length}
 use Rattle.document.specs.declared.table.Table.{Table}
 use Rattle.document.specs.declared.table.Reading.{Reading}
-use Rattle.document.specs.declared.table.Answer.TheVariants as A
+use Rattle.std.specs.Prelude.{Ok, Err}
+use Rattle.document.specs.Refusals.{number_of}
+use Rattle.document.specs.declared.refusal.Refusal.{Refusal}
 use Rattle.document_meaning.proofs.Lengths.{plain_within}
 use Rattle.document.proofs.Tables.{own_written}
 use Rattle.document_meaning.proofs.Spelled.{accepted_spells}
@@ -90,7 +92,7 @@ pub record Accepted (input : List ℕ) (t : Table) (text : List ℕ) : Type 0 wh
   pub strings_first : text ≡ strings posology ++ behind
   pub is : read (in_greatest_room for_plan) input ≡ taken posology
 
-pub read_accepted : {input before after : List ℕ} {r : Reading} → Reads for_plan input before r after → length before ≡ greatest_room → r.answer ≡ A.Taken → Accepted input r.table after
+pub read_accepted : {input before after : List ℕ} {r : Reading} → Reads for_plan input before r after → length before ≡ greatest_room → r.answer ≡ Ok tt → Accepted input r.table after
 read_accepted {input} {before} {after} {r} h l e =
     let room : room_of (length before) ≡ greatest_room = omega arith in
     go (read (in_greatest_room for_plan) input) refl (rw room at h.answer) (rw room at h.table) (rw room at h.left)
@@ -101,15 +103,15 @@ read_accepted {input} {before} {after} {r} h l e =
         record { posology = p; behind = drop (length (strings p)) before; is_valid = s.1; fits = s.3; table = t; strings_first = b; is = is }
     go (refused n place) is a t b = never (cc (sym a ∙ ap answer_values e))
 
-pub read_refused : {input before after : List ℕ} {r : Reading} {n place : ℕ} → Reads for_plan input before r after → length before ≡ greatest_room → r.answer ≡ A.Refused n place
-    → read (in_greatest_room for_plan) input ≡ refused n place
-read_refused {input} {before} {after} {r} {n} {place} h l e =
+pub read_refused : {input before after : List ℕ} {r : Reading} {why : Refusal} → Reads for_plan input before r after → length before ≡ greatest_room → r.answer ≡ Err why
+    → read (in_greatest_room for_plan) input ≡ refused (number_of why.0) why.1
+read_refused {input} {before} {after} {r} {why} h l e =
     let room : room_of (length before) ≡ greatest_room = omega arith in
     go (read (in_greatest_room for_plan) input) refl (rw room at h.answer)
   where
-    go : (x : Read) → read (in_greatest_room for_plan) input ≡ x → answer_values r.answer ≡ read_values x → read (in_greatest_room for_plan) input ≡ refused n place
+    go : (x : Read) → read (in_greatest_room for_plan) input ≡ x → answer_values r.answer ≡ read_values x → read (in_greatest_room for_plan) input ≡ refused (number_of why.0) why.1
     go (taken p) is a = never (cc (sym a ∙ ap answer_values e))
-    go (refused m at) is a = let both : number m at ≡ number n place = sym a ∙ ap answer_values e in is ∙ cc both
+    go (refused m at) is a = let both : number m at ≡ number (number_of why.0) why.1 = sym a ∙ ap answer_values e in is ∙ cc both
 
 -- The line, by what reading comes to.
 pub line_is : (buffer : ℕ) (input : List ℕ) (x : Read) → read (in_greatest_room for_plan) input ≡ x → line buffer input ≡ line_of buffer x

@@ -11,11 +11,7 @@ use Rattle.checker_lines.proofs.put_refusal.Goals as goal
 
 pub returns : goal.returns
 unfolding refusal_line
-returns c number_fits place-fits =
-    let e : c.args.number % 1000000 ≡ c.args.number = omega arith in
-    let f : c.args.place % 1000000 ≡ c.args.place = omega arith in
-    puts_then (c.put_all-at.ensures _)
-    (puts_then (rw e at (c.put_whole-at.ensures (space ∷ spell (whole c.args.place) (line_feed ∷ []))))
-    (puts_then (c.put-at.ensures _)
-    (puts_then (rw f at (c.put_whole-at-2.ensures (line_feed ∷ [])))
-    (c.put.ensures []))))
+returns c place-fits =
+    let number = c.number.ensures in
+    let e : c.number.result % 1000000 ≡ c.number.result = omega arith in
+    let f : c.args.why.1 % 1000000 ≡ c.args.why.1 = omega arith in ?
