@@ -1,12 +1,12 @@
 -- Document 02, Wish 2: a record's head at a place of an area, a record laid behind the last, and the gap that one leaves closed.
-use Rattle.std.specs.Prelude.{◌≡◌, List, ◌∷◌, ◌++◌, Bool, cond, ℕ, ◌+◌, ◌-◌, ◌/◌, ◌%◌, leb, length, take, drop, replicate}
+use Rattle.std.specs.Prelude.{◌≡◌, List, ◌∷◌, ◌++◌, Bool, cond, ℕ, ◌+◌, ◌-◌, ◌/◌, ◌%◌, leb, length, take, drop, replicate, Option, Some, None}
 use Rattle.std.proofs.lemmas.List.Edits.{sets}
 use Rattle.shelf_list.specs.Shelf.{number_at, begins}
 
--- The size of the record at a place, as its head says; 0 where none begins.
-unfoldable pub head_size : List ℕ → ℕ → ℕ
+-- The size of the record at a place, as its head says, if one begins there.
+unfoldable pub head_size : List ℕ → ℕ → Option ℕ
 unfolding begins
-head_size a i = cond (begins (drop i a)) (6 + number_at (drop i a) 4) 0
+head_size a i = cond (begins (drop i a)) (Some (6 + number_at (drop i a) 4)) None
 
 -- The two lowest bytes of a number, high byte first.
 abbrev pub low_bytes : ℕ → List ℕ → List ℕ
