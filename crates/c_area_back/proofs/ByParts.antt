@@ -1,14 +1,13 @@
--- The two parts of bytes, and the table that these lay out: an area's head lies as it was read, and its words are those of its table.
+-- The two parts of bytes, and the table that these lay out: an area's head lies as it is read, and its words are those of its table.
 -- Bytes whose head does so are an area where their words are those of any table.
 use Prim.Native.Nat.{ℕ}
 use mathlib.Core.Path.{◌≡◌, sym, ap, ap₂, ◌∙◌}
+use Rattle.std.specs.Prelude.{Some, None}
 use mathlib.Core.List.{List, [], ◌∷◌, ◌++◌}
 use mathlib.Core.Bool.{true}
 use lib.ListN.{length, take, drop, take-append-drop}
-use Rattle.document.specs.Lookup.{same}
 use Rattle.document.specs.Words.{width, head_words, table_words}
 use Rattle.document.specs.declared.table.Table.{Table}
-use Rattle.document.proofs.Same.{same_refl, same_equal}
 use Rattle.table_kinds.specs.Kinds.{record_in}
 use Rattle.table_kinds.proofs.Fill.{groups_length}
 use Rattle.table_words.specs.ByWords.{ByWords}
@@ -22,24 +21,19 @@ use Rattle.c_area_back.proofs.InFits.{in_fits}
 use Rattle.c_area_back.proofs.Numbers.{numbers_laid, bytes_lie}
 use Rattle.c_area_back.proofs.Parts.{head_numbers, in_parts, words_front, words_behind}
 
-abbrev numbers_read : HeadPart → List ℕ
-numbers_read r = head_words r.head (r.count ∷ r.text ∷ [])
-
-module _ (area : List ℕ) (r : HeadPart) (h : HeadIs area r) (b : AllBytes area) where
+module _ (area : List ℕ) (b : AllBytes area) where
   module _ (a : is_area area ≡ true) where
     area_numbers : numbers_in area ≡ table_words (table_in area)
     area_numbers = ap numbers_in (sym (area_lies area a)) ∙ numbers_laid (table_in area) (in_fits area b)
 
-    pub area_laid : r.laid ≡ true
+    -- Bytes whose head does not lie as it is read are no area.
+    pub area_laid : HeadIs area None → ⊥
     unfolding table_in
-    area_laid =
-        let read : numbers_read r ≡ take 26 (numbers_in area) =
-        rw (h.head, h.count, h.text) (sym (ap (take 26) area_numbers ∙ words_front (table_in area))) in
-        h.laid ∙ ap (λ (ns : List ℕ). same ns (take 26 (numbers_in area))) read ∙ same_refl (take 26 (numbers_in area))
+    area_laid h = h (sym (ap (take 26) area_numbers ∙ words_front (table_in area)))
 
-    pub area_by_words : ByWords (table_in area) r.head r.count r.text (words_in area)
+    pub area_by_words : (r : HeadPart) → HeadIs area (Some r) → ByWords (table_in area) r.head r.count r.text (words_in area)
     unfolding table_in
-    area_by_words =
+    area_by_words r h =
         record {
           head = sym h.head;
           count = sym h.count;
@@ -48,13 +42,12 @@ module _ (area : List ℕ) (r : HeadPart) (h : HeadIs area r) (b : AllBytes area
           all = groups_length width record_in 64 (drop 26 (numbers_in area));
         }
 
-  pub laid_is_area : (t : Table) → Fitting t → r.laid ≡ true → length area ≡ area_bytes
+  pub laid_is_area : (r : HeadPart) → HeadIs area (Some r) → (t : Table) → Fitting t → length area ≡ area_bytes
       → ByWords t r.head r.count r.text (words_in area) → is_area area ≡ true
   unfolding area_of
-  laid_is_area t f l e w =
-      let front : numbers_read r ≡ take 26 (numbers_in area) = same_equal _ _ (sym h.laid ∙ l) in
-      let same_head : head_numbers t ≡ numbers_read r = rw (w.head, w.count, w.text) in
+  laid_is_area r h t f e w =
+      let same_head : head_numbers t ≡ head_words r.head (r.count ∷ r.text ∷ []) = rw (w.head, w.count, w.text) in
       let numbers : table_words t ≡ numbers_in area =
-      in_parts t ∙ ap₂ ◌++◌ (same_head ∙ front) w.words ∙ take-append-drop 26 (numbers_in area) in
+      in_parts t ∙ ap₂ ◌++◌ (same_head ∙ h.lies) w.words ∙ take-append-drop 26 (numbers_in area) in
       let lies : area_of t ≡ area = ap all_bytes numbers ∙ bytes_lie area b e in
       ap is_area (sym lies) ∙ is_area_lem t f

@@ -1,8 +1,6 @@
 pub mod AreaBack
 pub mod ByParts
-mod Groups
+pub mod Groups
 mod InFits
 mod Numbers
 mod Parts
-mod Same
-mod Tags

@@ -1,14 +1,14 @@
 // The head, the counts and the words of records that an area's bytes would lay out (docs/AREA.md).
 #![tactic(auto)]
 
-ghost use Rattle.std.specs.Prelude.{◌≡◌, ◌<◌, length, take, drop};
-ghost use Rattle.document.specs.Lookup.{same};
-ghost use Rattle.c_area.specs.Area.{area_bytes, numbers_in, date_in, text_in, head_in};
+ghost use Rattle.std.specs.Prelude.{◌≡◌, ◌<◌, ◌≤◌, ◌+◌, ◌*◌, length, drop};
+ghost use Rattle.table_kinds.specs.Kinds.{groups};
+ghost use Rattle.c_numbers.specs.Eights.{number_in};
+ghost use Rattle.c_area.specs.Area.{area_bytes, date_in, text_in, head_in};
 ghost use Rattle.c_area_back.specs.Parts.{HeadIs, words_in};
 
+use c_area::HEAD;
 use document::table::{Date, Head, Text, WORDS};
-
-const HEAD: usize = 26;
 
 // The head's part of an area.
 #[derive(Clone, Copy)]
@@ -18,101 +18,89 @@ pub struct HeadPart {
     pub text: usize,
 }
 
-fn head_numbers(area: &[u8]) -> [u64; HEAD]
-    ensures { result ≡ take 26 (numbers_in area.now) }
+// The numbers of a part of an area, from a place on: in one go, where the bytes have them all.
+#[tactic(auto, using(crate::proofs::Groups::numbers_taken))]
+fn numbers_from<const N: usize>(area: &[u8], from: usize) -> [u64; N]
+    requires { from + N * 8 ≤ area_bytes }
+    ensures { result ≡ groups 8 (number_in 8) N (drop from area.now) }
 {
-    let mut numbers = [0u64; HEAD];
-    for i in 0..HEAD {
-        numbers[i] = c_numbers::number_at(area, i * 8);
+    let mut numbers = [0; N];
+    if from + N * 8 <= area.len() {
+        c_numbers::take_numbers(area, from, &mut numbers);
+        return numbers;
+    }
+    for (i, number) in numbers.iter_mut().enumerate() {
+        *number = c_numbers::number_at(area, from + i * 8);
     }
     numbers
 }
 
-// Taken in one go.
-fn whole_words(area: &[u8]) -> [u64; WORDS]
-    requires { length area.now ≡ area_bytes }
-    ensures { result ≡ words_in area.now }
-{
-    let mut words = [0u64; WORDS];
-    c_numbers::take_numbers(area, 208, &mut words);
-    words
-}
-
 // The words of the records, behind the head's numbers.
+#[tactic(auto, using(crate::proofs::Groups::record_numbers_lem))]
 pub fn words_in(area: &[u8]) -> [u64; WORDS]
     ensures { result ≡ words_in area.now }
 {
-    if area.len() == c_area::AREA {
-        return whole_words(area);
-    }
-    let mut words = [0u64; WORDS];
-    for i in 0..WORDS {
-        words[i] = c_numbers::number_at(area, 208 + i * 8);
-    }
-    words
+    numbers_from(area, HEAD * 8)
 }
 
-fn date_at(n: &[u64; HEAD], at: usize) -> Date
-    requires { at < 20 }
-    ensures { result ≡ date_in (drop at n.now) }
+#[tactic(auto, unfolding(c_area::specs::Area::date_in, c_area::specs::Area::date_of))]
+fn date_in(numbers: &[u64]) -> Date
+    requires { 7 ≤ length numbers.now }
+    ensures { result ≡ date_in numbers.now }
 {
-    let form = n[at];
-    let year = (n[at + 1] % 0x10000) as u16;
-    let month = (n[at + 2] % 256) as u8;
-    let day = (n[at + 3] % 256) as u8;
-    match form {
+    let year = (numbers[1] % 0x10000) as u16;
+    let month = (numbers[2] % 256) as u8;
+    let day = (numbers[3] % 256) as u8;
+    match numbers[0] {
         0 => Date::Absent,
         1 => Date::Bare { year, month, day },
         _ => Date::Moment {
             year,
             month,
             day,
-            second: (n[at + 4] % 0x100000000) as u32,
-            west: n[at + 5] == 1,
-            zone: (n[at + 6] % 0x10000) as u16,
+            second: (numbers[4] % 0x100000000) as u32,
+            west: numbers[5] == 1,
+            zone: (numbers[6] % 0x10000) as u16,
         },
     }
 }
 
-fn text_at(n: &[u64; HEAD], at: usize) -> Text
+fn text_in(at: usize, numbers: &[u64; HEAD]) -> Text
     requires { at < 24 }
-    ensures { result ≡ text_in at n.now }
+    ensures { result ≡ text_in at numbers.now }
 {
     Text {
-        start: n[at] as usize,
-        len: n[at + 1] as usize,
+        start: numbers[at] as usize,
+        len: numbers[at + 1] as usize,
     }
 }
 
-fn head_in(n: &[u64; HEAD]) -> Head
-    ensures { result ≡ head_in n.now }
+#[tactic(auto, unfolding(c_area::specs::Area::head_in))]
+fn head_in(numbers: &[u64; HEAD]) -> Head
+    ensures { result ≡ head_in numbers.now }
 {
     Head {
-        from: date_at(n, 0),
-        to: date_at(n, 7),
-        reserve: n[14] == 1,
-        meal: (n[15] % 256) as u8,
-        unit: text_at(n, 16),
-        instructions: text_at(n, 18),
-        roa: text_at(n, 20),
-        moa: text_at(n, 22),
+        from: date_in(&numbers[..]),
+        to: date_in(&numbers[7..]),
+        reserve: numbers[14] == 1,
+        meal: (numbers[15] % 256) as u8,
+        unit: text_in(16, numbers),
+        instructions: text_in(18, numbers),
+        roa: text_in(20, numbers),
+        moa: text_in(22, numbers),
     }
 }
 
-// None where its numbers are not those of the head and the counts that they are read as.
+// None where the head's numbers are not those of the head and the counts that they are read as.
 pub fn head_part(area: &[u8]) -> Option<HeadPart>
     ensures { HeadIs area.now result }
 {
-    let n = head_numbers(area);
-    let h = head_in(&n);
-    let count = n[24] as usize;
-    let text = n[25] as usize;
-    if c_area::head_numbers(h, count, text) != n {
+    let numbers: [u64; HEAD] = numbers_from(area, 0);
+    let head = head_in(&numbers);
+    let count = numbers[24] as usize;
+    let text = numbers[25] as usize;
+    if c_area::head_numbers(head, count, text) != numbers {
         return None;
     }
-    Some(HeadPart {
-        head: h,
-        count,
-        text,
-    })
+    Some(HeadPart { head, count, text })
 }

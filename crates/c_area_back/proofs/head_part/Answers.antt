@@ -1,22 +1,17 @@
--- The head's part of an area: what its numbers are read as, and whether that lies as they do.
-use mathlib.Core.Path.{ap, ap₂, ◌∙◌}
-use native.Mathlib.Omega.{arith}
-use lib.ListN.{length, get_or}
-use Rattle.document.specs.Lookup.{same}
-use Rattle.c_area.specs.Area.{head_in}
-use Rattle.c_area.proofs.Laid.{head_length}
-use Rattle.c_area_back.proofs.Groups.{head_of_all, head_size_lem, front_number}
+-- The head's part of an area: what its numbers are read as, where these are its numbers.
+use mathlib.Core.Path.{sym, ◌∙◌}
+use borrow.Author.Tests.{not-false, not-true}
+use Rattle.std.proofs.lemmas.Bool.Decides.{not_from_Decides}
+use Rattle.std.proofs.lemmas.Slice.Eq.{bytes_eq-Decides}
+use Rattle.c_area_back.proofs.Groups.{part_is, no_part}
 use Rattle.c_area_back.proofs.head_part.Goals as goal
 
-pub same_numbers-requires : goal.same_numbers-requires
-same_numbers-requires c =
-    (ap length c.head_numbers-back.ensures ∙ head_length c.head_in-h.result (get_or c.head_numbers-n.result 24 0) (get_or c.head_numbers-n.result 25 0), ap length c.head_numbers-n.ensures ∙ head_size_lem c.args.area.now)
+pub returns-then-ne : goal.returns-then-ne
+returns-then-ne c =
+    no_part _ _ _ _ c.numbers_from-numbers.ensures c.head_in-head.ensures c.head_numbers.ensures
+    (not_from_Decides _ (bytes_eq-Decides _ _) (not-true _ (sym c.ne.ensures ∙ c.if-ne.true)))
 
 pub returns : goal.returns
 returns c =
-    record {
-      head = c.head_in-h.ensures ∙ ap head_in c.head_numbers-n.ensures ∙ head_of_all c.args.area.now;
-      count = ap (λ ns. get_or ns 24 0) c.head_numbers-n.ensures ∙ front_number c.args.area.now 24 (omega arith);
-      text = ap (λ ns. get_or ns 25 0) c.head_numbers-n.ensures ∙ front_number c.args.area.now 25 (omega arith);
-      laid = c.same_numbers.ensures ∙ ap₂ same c.head_numbers-back.ensures c.head_numbers-n.ensures;
-    }
+    part_is _ _ _ _ c.numbers_from-numbers.ensures c.head_in-head.ensures c.head_numbers.ensures
+    ((bytes_eq-Decides _ _).0 (not-false _ (sym c.ne.ensures ∙ c.if-ne.false)))
