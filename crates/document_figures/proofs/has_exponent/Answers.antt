@@ -9,8 +9,8 @@ pub returns-then-b-eq101 : goal.returns-then-b-eq101
 returns-then-b-eq101 c =
     search exponents
 
-pub loop-i-preserved : goal.loop-i-preserved
-loop-i-preserved c =
+pub loop-b-preserved : goal.loop-b-preserved
+loop-b-preserved c =
     search exponents
 
 pub returns : goal.returns

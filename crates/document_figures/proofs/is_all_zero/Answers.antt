@@ -1,12 +1,12 @@
 use Rattle.document_figures.proofs.Bytes.{zeros}
 use Rattle.document_figures.proofs.is_all_zero.Goals as goal
 
-pub returns-then-raw-i-ne48 : goal.returns-then-raw-i-ne48
-returns-then-raw-i-ne48 c =
+pub returns-then-b-ne48 : goal.returns-then-b-ne48
+returns-then-b-ne48 c =
     search zeros
 
-pub loop-i-preserved : goal.loop-i-preserved
-loop-i-preserved c =
+pub loop-b-preserved : goal.loop-b-preserved
+loop-b-preserved c =
     search zeros
 
 pub returns : goal.returns
