@@ -1,5 +1,5 @@
 -- The fields of a detail and of a sequence's object in turn, and what was done of each.
-use Prim.Native.Nat.{ℕ, ◌+◌, ◌*◌, ◌-◌, ◌<◌, ◌≤◌}
+use Prim.Native.Nat.{ℕ, ◌+◌, ◌*◌, ◌-◌, ◌<◌}
 use Prim.Native.String.{String}
 use mathlib.Core.Path.{◌≡◌, refl, ap, sym, ◌∙◌, subst}
 use mathlib.Core.List.{List, [], ◌∷◌}
@@ -7,6 +7,7 @@ use mathlib.Core.Option.{some}
 use native.Mathlib.Omega.{arith}
 use lib.ListN.{length, length-append}
 use lib.Seq.{sets}
+use Rattle.std.specs.Prelude.{Option, Result, Ok, Err}
 use Rattle.json_grammar.specs.Tree.{Place}
 use Rattle.document.specs.Posology as P
 use Rattle.document.specs.Table.{detail_rows}
@@ -17,19 +18,18 @@ use Rattle.document.specs.Schema.{a_list, four_decimals, Four, a_text, a_timed, 
 use Rattle.document.specs.Visit.{State, Outcome, done, needed, Value}
 use Rattle.document.specs.Words.{width, row, words}
 use Rattle.document.specs.Told.{more, Still, Hands}
+use Rattle.document.specs.Refusals.{number_of}
+use Rattle.document.specs.declared.refusal.Refusal.{Refusal}
 use Rattle.document.specs.declared.terms.Terms.{Terms}
 use Rattle.document.specs.declared.terms.Used.{Used}
 use Rattle.document.proofs.Taken.{still_same, still_then}
 use Rattle.document.proofs.Untables.{joined_append}
 use Rattle.read_names.specs.Names.{name_at, names as all_names}
-use Rattle.read_fields.specs.Fields.{Refuses, ReadsFour, StringIs, Words, WordsFrom, Longer}
-use Rattle.read_fields.specs.declared.four.Fours.{Fours}
-use Rattle.read_fields.specs.declared.four.Fours.TheVariants as Q
+use Rattle.read_names.specs.declared.names.Name.TheVariants as N
+use Rattle.read_fields.specs.Fields.{Refuses, ReadsFour, StringIs, WordsFrom, Longer}
+use Rattle.read_fields.specs.declared.four.Four.{Four as FourRead}
 use Rattle.read_fields.specs.declared.field.Worded.{Worded}
-use Rattle.read_fields.specs.declared.field.Worded.TheVariants as W
-use Rattle.read_records.specs.declared.rows.Visit.{Visit}
-use Rattle.read_type.specs.declared.opened.Object.{Object}
-use Rattle.read_dosages.specs.Visiting.{Did, VisitsNeeded, VisitsTyped, TimedRows}
+use Rattle.read_dosages.specs.Visiting.{Did, VisitsNeeded, TimedRows}
 use Rattle.read_dosages.specs.Kept.{Grown}
 use Rattle.read_dosages.proofs.Bodies.{Known, Comes, passed, stopped}
 use Rattle.read_dosages.proofs.Rowed.{leaf_did, above_did}
@@ -38,31 +38,31 @@ use Rattle.read_details.specs.Rows.{DetailRows, DetailAt, ObjectIn}
 
 -- The names of each object's rows.
 module _ (n : ℕ) where
-  pub daily_known : Known (a_detail n) 1 (bytes "t" ∷ []) (0 ∷ 1 ∷ [])
+  pub daily_known : Known (a_detail n) 1 (bytes "t" ∷ []) (N.T ∷ N.Ds ∷ [])
   unfolding rows_of daily_rows name_at all_names
   daily_known = record { counted = refl; named = refl }
 
-  pub free_text_known : Known (a_detail n) 2 (bytes "t" ∷ []) (0 ∷ 2 ∷ [])
+  pub free_text_known : Known (a_detail n) 2 (bytes "t" ∷ []) (N.T ∷ N.Text ∷ [])
   unfolding rows_of free_text_rows name_at all_names
   free_text_known = record { counted = refl; named = refl }
 
-  pub single_known : Known (a_detail n) 3 (bytes "t" ∷ []) (0 ∷ 3 ∷ [])
+  pub single_known : Known (a_detail n) 3 (bytes "t" ∷ []) (N.T ∷ N.Tdo ∷ [])
   unfolding rows_of single_rows name_at all_names
   single_known = record { counted = refl; named = refl }
 
-  pub cyclic_known : Known (a_detail n) 4 (bytes "t" ∷ []) (0 ∷ 4 ∷ 5 ∷ 3 ∷ 6 ∷ [])
+  pub cyclic_known : Known (a_detail n) 4 (bytes "t" ∷ []) (N.T ∷ N.CyDuU ∷ N.CyDu ∷ N.Tdo ∷ N.Tdpc ∷ [])
   unfolding rows_of cyclic_rows name_at all_names
   cyclic_known = record { counted = refl; named = refl }
 
-  pub sequence_known : Known (a_detail n) 5 (bytes "t" ∷ []) (0 ∷ 7 ∷ [])
+  pub sequence_known : Known (a_detail n) 5 (bytes "t" ∷ []) (N.T ∷ N.Sos ∷ [])
   unfolding rows_of sequence_rows name_at all_names
   sequence_known = record { counted = refl; named = refl }
 
-  pub posology_sequence_known : Known (a_sequence_object n) 1 (bytes "t" ∷ []) (0 ∷ 19 ∷ 18 ∷ 22 ∷ [])
+  pub posology_sequence_known : Known (a_sequence_object n) 1 (bytes "t" ∷ []) (N.T ∷ N.Du ∷ N.DuU ∷ N.Po ∷ [])
   unfolding rows_of posology_sequence_rows name_at all_names
   posology_sequence_known = record { counted = refl; named = refl }
 
-  pub pause_known : Known (a_sequence_object n) 2 (bytes "t" ∷ []) (0 ∷ 19 ∷ 18 ∷ [])
+  pub pause_known : Known (a_sequence_object n) 2 (bytes "t" ∷ []) (N.T ∷ N.Du ∷ N.DuU ∷ [])
   unfolding rows_of pause_rows name_at all_names
   pause_known = record { counted = refl; named = refl }
 
@@ -77,27 +77,21 @@ grown_longer {u = u} {w} {v} few e l =
 
 -- Four decimals, and a string.
 module _ {A : Type 0} {terms : Terms} {text : List ℕ} {o : Outcome A} {es : List (Entry Value)} {u : Used} where
-  module _ {p : Place} {n : String} {k : Four → Rows A} (g : Comes terms text o p es (need n (a_list four_decimals) k) u) (r : Fours)
-      (reads : (l : State) → ReadsFour text (needed (a_list four_decimals) p (find (bytes n) es) l) l r) where
-    four_reads : {y : Fours} → r ≡ y → ReadsFour text (needed (a_list four_decimals) p (find (bytes n) es) g.state) g.state y
-    four_reads e = subst (λ (y : Fours). ReadsFour text (needed (a_list four_decimals) p (find (bytes n) es) g.state) g.state y) e (reads g.state)
+  module _ {p : Place} {n : String} {k : Four → Rows A} (g : Comes terms text o p es (need n (a_list four_decimals) k) u) where
+    pub took_four : (f : FourRead) → ((l : State) → ReadsFour text (needed (a_list four_decimals) p (find (bytes n) es) l) l (Ok f))
+        → Comes terms text o p es (k (record { morning = f.morning; noon = f.noon; evening = f.evening; night = f.night })) u
+    took_four f reads = passed g (reads g.state)
 
-    pub took_four : {a b c d : ℕ} → r ≡ Q.Is a b c d → Comes terms text o p es (k (record { morning = a; noon = b; evening = c; night = d })) u
-    took_four e = passed g (four_reads e)
+    pub stopped_four : (r : Refusal) → ((l : State) → ReadsFour text (needed (a_list four_decimals) p (find (bytes n) es) l) l (Err r)) → Refuses text o (number_of r.0) r.1
+    stopped_four r reads = stopped g (reads g.state)
 
-    pub stopped_four : {m q : ℕ} → r ≡ Q.Refused m q → Refuses text o m q
-    stopped_four e = stopped g (four_reads e)
+  module _ {p : Place} {n : String} {k : List ℕ → Rows A} (g : Comes terms text o p es (need n a_text k) u) where
+    pub text_hands : (w : Worded) → WordsFrom terms text u (needed a_text p (find (bytes n) es)) (λ cs. some cs) (Ok w)
+        → Hands terms text (needed a_text p (find (bytes n) es) g.state) w.used λ cs. StringIs text w.quote w.len (some cs)
+    text_hands w reads = reads g.state g.tells
 
-  module _ {p : Place} {n : String} {k : List ℕ → Rows A} (g : Comes terms text o p es (need n a_text k) u) (r : Worded)
-      (reads : WordsFrom terms text u (needed a_text p (find (bytes n) es)) (λ cs. some cs) r) where
-    text_reads : {y : Worded} → r ≡ y → Words terms text (needed a_text p (find (bytes n) es) g.state) (λ cs. some cs) y
-    text_reads e = subst (λ (y : Worded). Words terms text (needed a_text p (find (bytes n) es) g.state) (λ cs. some cs) y) e (reads g.state g.tells)
-
-    pub text_hands : {q m : ℕ} {v : Used} → r ≡ W.Is q m v → Hands terms text (needed a_text p (find (bytes n) es) g.state) v λ cs. StringIs text q m (some cs)
-    text_hands e = text_reads e
-
-    pub stopped_text : {m q : ℕ} → r ≡ W.Refused m q → Refuses text o m q
-    stopped_text e = stopped g (text_reads e)
+    pub stopped_text : (r : Refusal) → WordsFrom terms text u (needed a_text p (find (bytes n) es)) (λ cs. some cs) (Err r) → Refuses text o (number_of r.0) r.1
+    stopped_text r reads = stopped g (reads g.state g.tells)
 
 -- A record with none below it.
 module _ {terms : Terms} (text : List ℕ) {p : Place} {es : List (Entry Value)} {u v : Used} {before after : List ℕ} where
@@ -157,14 +151,6 @@ module _ {terms : Terms} (text : List ℕ) (u : Used) {w v v' : Used} {before mi
       (row_above 4 unit du per 0 timed_below d.row.0, omega (arith, no_string)) one.records same.records stored
 
 -- Under a Cyclic, by its unit.
-pub timed_under : {ts ts' : List ℕ} (terms : Terms) (text : List ℕ) (brace v : ℕ) (w : Used) (before : List ℕ) (r : Visit) (after : List ℕ) → ts ≡ ts'
+pub timed_under : {ts ts' : List ℕ} (terms : Terms) (text : List ℕ) (brace : ℕ) (v : Option ℕ) (w : Used) (before : List ℕ) (r : Result Used Refusal) (after : List ℕ) → ts ≡ ts'
     → VisitsNeeded terms (a_timed ts) TimedRows text brace v w before r after → VisitsNeeded terms (a_timed ts') TimedRows text brace v w before r after
 timed_under terms text brace v w before r after e h = subst (λ (x : List ℕ). VisitsNeeded terms (a_timed x) TimedRows text brace v w before r after) e h
-
--- The type of a detail, by another name.
-pub of_kind : (terms : Terms) (n : ℕ) {k t : ℕ} (text : List ℕ) (at : ℕ) (o : Object) (u : Used) (before : List ℕ) (r : Visit) (after : List ℕ)
-    → k ≡ t → VisitsTyped terms (a_detail n) t (DetailAt text) text at o u before r after → VisitsTyped terms (a_detail n) k (DetailAt text) text at o u before r after
-of_kind terms n text at o u before r after e h = subst (λ (x : ℕ). VisitsTyped terms (a_detail n) x (DetailAt text) text at o u before r after) (sym e) h
-
-pub is_four : (k : ℕ) → (k ≡ 1 → ⊥) → (k ≡ 2 → ⊥) → (k ≡ 3 → ⊥) → 1 ≤ k → k ≤ 4 → k ≡ 4
-is_four k a b c least most = omega arith

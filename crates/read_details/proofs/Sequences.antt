@@ -4,10 +4,11 @@ use mathlib.Core.Path.{◌≡◌, refl, ap, sym, ◌∙◌, subst}
 use mathlib.Core.List.{List, [], ◌∷◌, ◌++◌}
 use mathlib.Core.Bool.{Bool, true, false, not}
 use native.Mathlib.Omega.{arith}
-use lib.ListN.{length, drop, get_or, length-append}
+use lib.ListN.{length, drop, length-append}
 use lib.Seq.{sets}
 use lib.Dec.{leb}
 use borrow.Author.Tests.{ne_eqb, lt-ltb, leb-true, leb-false}
+use Rattle.std.specs.Prelude.{Ok, Err}
 use Rattle.json_grammar.specs.Tree.{Place, Moves, Tree}
 use Rattle.json_move.specs.Moving.{first_in, at_end}
 use Rattle.document.specs.Bytes.{bytes}
@@ -20,6 +21,8 @@ use Rattle.document.specs.Visit.{State, Outcome, refuse, guard, is_empty, needed
 use Rattle.document.specs.Words.{width, row, words}
 use Rattle.document.specs.At.{At}
 use Rattle.document.specs.Told.{Tells, more, Still, GoesOn}
+use Rattle.document.specs.Refusals.{number_of}
+use Rattle.document.specs.declared.refusal.Refusal.{Refusal}
 use Rattle.document.specs.declared.terms.Terms.{Terms}
 use Rattle.document.specs.declared.terms.Used.{Used}
 use Rattle.document.proofs.Taken.{goes_as, goes_to}
@@ -27,15 +30,12 @@ use Rattle.document.proofs.Untables.{object_append}
 use Rattle.read_fields.specs.Fields.{Refuses, Listing, ObjectAt}
 use Rattle.read_fields.proofs.Refusals.{refuses_as}
 use Rattle.read_fields.proofs.Elements.{standing_first, standing_here, standing_over}
-use Rattle.read_fields.specs.declared.field.Found.{Found as FoundAt}
-use Rattle.read_fields.specs.declared.field.Found.TheVariants as A
-use Rattle.read_records.specs.declared.rows.Visit.{Visit}
-use Rattle.read_records.specs.declared.rows.Visit.TheVariants.{Done, Refused}
-use Rattle.read_type.specs.Opens.{Typed, by_kind, type_place}
-use Rattle.read_type.specs.declared.opened.Object.{Object}
-use Rattle.read_dosages.specs.Visiting.{Did, Visited, VisitsObject, VisitsEach}
-use Rattle.read_dosages.proofs.Bodies.{Comes, stopped, list_at, finds_child, finds_refused}
-use Rattle.read_dosages.proofs.Rowed.{above_did, count_below, did_as, visited_as, visited_done, visited_refused}
+use Rattle.read_names.specs.declared.slots.Object.{Object}
+use Rattle.read_type.specs.Opens.{Typed, by_kind, type_slot, type_place}
+use Rattle.read_type.specs.declared.opened.Opened.{Opened}
+use Rattle.read_dosages.specs.Visiting.{Did, VisitsObject, VisitsEach}
+use Rattle.read_dosages.proofs.Bodies.{Comes, stopped, list_at}
+use Rattle.read_dosages.proofs.Rowed.{above_did, count_below, did_as}
 use Rattle.read_dosages.proofs.Chunks.{timed_length, row_above}
 use Rattle.read_details.specs.Rows.{DetailRows, ObjectRows, ObjectsRows, DetailAt, ObjectIn, ObjectsIn}
 
@@ -118,24 +118,21 @@ module _ {terms : Terms} {text : List ℕ} {o : Outcome P.Detail} (brace : ℕ) 
   pub sequence_empty : at_end (drop e text) ≡ true → Refuses text o 11 at
   sequence_empty q = stopped g (no_object_lem x m inside g.state q)
 
-  module _ (q : at_end (drop e text) ≡ false) (before : List ℕ) (r : Visit) (after : List ℕ) (reads : VisitsEach terms (a_sequence_object inside) (ObjectsIn text) text at u before r after) where
-    pub objects_did : {v : Used} → r ≡ Done v
+  module _ (q : at_end (drop e text) ≡ false) (before after : List ℕ) where
+    pub objects_did : {v : Used} → VisitsEach terms (a_sequence_object inside) (ObjectsIn text) text at u before (Ok v) after
         → Did terms text u before (ObjectsIn text) (needed (a_list (some_objects (a_sequence_object (suc inside - 1)))) (drop brace text) (find (bytes "sos") es) g.state) v after
-    objects_did d =
-        did_as (some_object_lem x m inside g.state q)
-        (visited_done terms text u before (ObjectsIn text) _ after (reads g.state g.tells x.place x.inner x.stands) d)
+    objects_did reads = did_as (some_object_lem x m inside g.state q) (reads g.state g.tells x.place x.inner x.stands)
 
-    pub objects_stopped : {n p : ℕ} → r ≡ Refused n p → Refuses text o n p
-    objects_stopped d =
-        stopped g
-        (refuses_as (some_object_lem x m inside g.state q)
-        (visited_refused terms text u before (ObjectsIn text) _ after (reads g.state g.tells x.place x.inner x.stands) d).0)
+    pub objects_stopped : (r : Refusal) → VisitsEach terms (a_sequence_object inside) (ObjectsIn text) text at u before (Err r) after → Refuses text o (number_of r.0) r.1 × (length after ≡ length before)
+    objects_stopped r reads =
+        let h = reads g.state g.tells x.place x.inner x.stands in
+        (stopped g (refuses_as (some_object_lem x m inside g.state q) h.0), h.1)
 
 -- An object opened, as far as its type.
-pub opens_as : {types : ℕ} {text : List ℕ} {at : ℕ} {u v : Used} {es : List (Entry Value)} {kind : ℕ} {o : Object} (x : Typed types text at u es kind v o) (f : Family) (t : ℕ) {p : Place}
-    {terms : Terms} {s : State} → Tells terms text u s → types_of f ≡ types → kind ≡ t → p ≡ drop at text → GoesOn terms text (members f p es s) v (by_kind f t text at o es)
+pub opens_as : {types : ℕ} {text : List ℕ} {at : ℕ} {u : Used} {es : List (Entry Value)} {o : Opened} (x : Typed types text at u es o) (f : Family) (t : ℕ) {p : Place}
+    {terms : Terms} {s : State} → Tells terms text u s → types_of f ≡ types → o.kind ≡ t → p ≡ drop at text → GoesOn terms text (members f p es s) o.used (by_kind f t text at o.object es)
 opens_as {text = text} {at} {es = es} {o = o} x f t {s = s} tells of k e =
-    goes_as (ap (λ q. members f q es s) e) (goes_to (λ l. ap (λ (n : ℕ). by_kind f n text at o es l) k) (x.opens f of _ s tells))
+    goes_as (ap (λ q. members f q es s) e) (goes_to (λ l. ap (λ (n : ℕ). by_kind f n text at o.object es l) k) (x.opens f of _ s tells))
 
 -- 14: whether a type may still open.
 pub opens_plain : (n k : ℕ) → (k ≡ 5 → ⊥) → may_open (a_detail n) k ≡ true
@@ -151,7 +148,7 @@ one_back : (n : ℕ) → (n ≡ 0 → ⊥) → n ≡ suc (n - 1)
 one_back n h = omega arith
 
 module _ (n : ℕ) (text : List ℕ) (at : ℕ) (o : Object) (es : List (Entry Value)) (s : State) where
-  pub sequence_deep : n ≡ 0 → get_or o.slots 0 0 ≤ length text → Refuses text (by_kind (a_detail n) 5 text at o es s) 14 (get_or o.slots 0 0)
+  pub sequence_deep : n ≡ 0 → type_slot o ≤ length text → Refuses text (by_kind (a_detail n) 5 text at o es s) 14 (type_slot o)
   sequence_deep e h =
       record { outcome = ap (λ b. guard b 14 (type_place text o) (body (a_detail n) 5 (bytes "t" ∷ []) (drop at text) es s)) (opens_none n e); inside = h }
 
@@ -175,22 +172,18 @@ unfolding DetailRows detail_strings
 no_objects text at = (refl, omega arith)
 
 -- An object of the list, as it is found and visited.
-module _ (text : List ℕ) (left e : ℕ) {f : FoundAt} (finds : ObjectAt text e f) where
-  pub object_refused : {n p : ℕ} → f ≡ A.Refused n p → (k : State) (t : Tree) → At text e t → Refuses text ((value_of t).read (an_object (a_sequence_object left)) k) n p
-  object_refused q k t a = finds_refused text (λ fam l. (value_of t).read (an_object fam) l) (finds t a) q (a_sequence_object left) k
+module _ (text : List ℕ) (left e : ℕ) where
+  pub object_refused : (r : Refusal) → ObjectAt text e (Err r) → (k : State) (t : Tree) → At text e t → Refuses text ((value_of t).read (an_object (a_sequence_object left)) k) (number_of r.0) r.1
+  object_refused r finds k t a = finds t a (a_sequence_object left) k
 
-  module _ {at : ℕ} (q : f ≡ A.At at) (terms : Terms) (u : Used) (now : List ℕ) (r : Visit) (after : List ℕ)
-      (h : VisitsObject terms (a_sequence_object left) (ObjectIn text) text at u now r after) {k : State} (tells : Tells terms text u k) where
-    object_visited : (t : Tree) → At text e t → Visited terms text u now (ObjectIn text) ((value_of t).read (an_object (a_sequence_object left)) k) r after
-    object_visited t a =
-        let x = finds_child text (λ fam l. (value_of t).read (an_object fam) l) (finds t a) q in
-        visited_as terms text u now (ObjectIn text) r after (x.outcome (a_sequence_object left) k) (h k tells x.place x.inner x.stands)
+  module _ {at : ℕ} (finds : ObjectAt text e (Ok at)) (terms : Terms) (u : Used) (now after : List ℕ) {k : State} (tells : Tells terms text u k) where
+    pub object_did : {v : Used} → VisitsObject terms (a_sequence_object left) (ObjectIn text) text at u now (Ok v) after
+        → (t : Tree) → At text e t → Did terms text u now (ObjectIn text) ((value_of t).read (an_object (a_sequence_object left)) k) v after
+    object_did visits t a = let x = finds t a in did_as (x.outcome (a_sequence_object left) k) (visits k tells x.place x.inner x.stands)
 
-    pub object_did : {v : Used} → r ≡ Done v → (t : Tree) → At text e t → Did terms text u now (ObjectIn text) ((value_of t).read (an_object (a_sequence_object left)) k) v after
-    object_did d t a = visited_done terms text u now (ObjectIn text) _ after (object_visited t a) d
-
-    pub object_stopped : {n p : ℕ} → r ≡ Refused n p → (t : Tree) → At text e t → Refuses text ((value_of t).read (an_object (a_sequence_object left)) k) n p
-    object_stopped d t a = (visited_refused terms text u now (ObjectIn text) _ after (object_visited t a) d).0
+    pub object_stopped : (r : Refusal) → VisitsObject terms (a_sequence_object left) (ObjectIn text) text at u now (Err r) after
+        → (t : Tree) → At text e t → Refuses text ((value_of t).read (an_object (a_sequence_object left)) k) (number_of r.0) r.1
+    object_stopped r visits t a = let x = finds t a in refuses_as (x.outcome (a_sequence_object left) k) (visits k tells x.place x.inner x.stands).0
 
 -- 15, where no record is left.
 pub full : {n : ℕ} {b : Bool} → b ≡ leb 64 n → b ≡ true → 64 ≤ n
@@ -198,9 +191,3 @@ full {n} e h = leb-true 64 n (sym e ∙ h)
 
 pub not_full : {n : ℕ} {b : Bool} → b ≡ leb 64 n → b ≡ false → n < 64
 not_full {n} e h = leb-false 64 n (sym e ∙ h)
-
-pub is_two : (k : ℕ) → (k ≡ 1 → ⊥) → 1 ≤ k → k ≤ 2 → k ≡ 2
-is_two k h least most = omega arith
-
-pub below_five : (k : ℕ) → (k ≡ 5 → ⊥) → k ≤ 5 → k ≤ 4
-below_five k h most = omega arith

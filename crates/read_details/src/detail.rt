@@ -35,7 +35,14 @@ const POSOLOGY_SEQUENCE: [Name; 4] = [Name::T, Name::Du, Name::DuU, Name::Po];
 
 const PAUSE: [Name; 3] = [Name::T, Name::Du, Name::DuU];
 
-fn daily(text: &[u8], at: usize, o: &Object, terms: Terms, used: Used, words: &mut [u64]) -> Result<Used, Refusal>
+fn daily(
+    text: &[u8],
+    at: usize,
+    o: &Object,
+    terms: Terms,
+    used: Used,
+    words: &mut [u64],
+) -> Result<Used, Refusal>
     requires { Ready terms words.old used × (used.records < 64) × (at ≤ length text.now) }
     ensures by_index { (n : ℕ) → VisitsTyped terms (a_detail n) 1 (DetailAt text.now) text.now at o.now used words.old result words.new }
     ensures kept { Kept terms 1 words.old used result words.new }
@@ -88,7 +95,14 @@ fn free_text(
     Ok(free.used)
 }
 
-fn single(text: &[u8], at: usize, o: &Object, terms: Terms, used: Used, words: &mut [u64]) -> Result<Used, Refusal>
+fn single(
+    text: &[u8],
+    at: usize,
+    o: &Object,
+    terms: Terms,
+    used: Used,
+    words: &mut [u64],
+) -> Result<Used, Refusal>
     requires { Ready terms words.old used × (used.records < 64) × (at ≤ length text.now) }
     ensures by_index { (n : ℕ) → VisitsTyped terms (a_detail n) 3 (DetailAt text.now) text.now at o.now used words.old result words.new }
     ensures kept { Kept terms 1 words.old used result words.new }
@@ -102,7 +116,14 @@ fn single(text: &[u8], at: usize, o: &Object, terms: Terms, used: Used, words: &
     Ok(used)
 }
 
-fn cyclic(text: &[u8], at: usize, o: &Object, terms: Terms, used: Used, words: &mut [u64]) -> Result<Used, Refusal>
+fn cyclic(
+    text: &[u8],
+    at: usize,
+    o: &Object,
+    terms: Terms,
+    used: Used,
+    words: &mut [u64],
+) -> Result<Used, Refusal>
     requires { Ready terms words.old used × (used.records < 64) × (at ≤ length text.now) }
     ensures by_index { (n : ℕ) → VisitsTyped terms (a_detail n) 4 (DetailAt text.now) text.now at o.now used words.old result words.new }
     ensures kept { Kept terms 1 words.old used result words.new }
@@ -116,13 +137,18 @@ fn cyclic(text: &[u8], at: usize, o: &Object, terms: Terms, used: Used, words: &
     let tdo = o.slots.at(Name::Tdo);
     let used = timed::read_timed(text, at, tdo, under, terms, span.used, words)?;
     let per = field::optional_integer(text, o.slots.at(Name::Tdpc), 1, 99999, 1, used)?;
-    rows::store(
-        words, i, per.used, 4, unit.value, span.value, per.value, 0,
-    );
+    rows::store(words, i, per.used, 4, unit.value, span.value, per.value, 0);
     Ok(per.used)
 }
 
-fn pause(text: &[u8], at: usize, o: &Object, terms: Terms, used: Used, words: &mut [u64]) -> Result<Used, Refusal>
+fn pause(
+    text: &[u8],
+    at: usize,
+    o: &Object,
+    terms: Terms,
+    used: Used,
+    words: &mut [u64],
+) -> Result<Used, Refusal>
     requires { Ready terms words.old used × (used.records < 64) × (at ≤ length text.now) }
     ensures by_index { (n : ℕ) → VisitsTyped terms (a_sequence_object n) 2 (ObjectIn text.now) text.now at o.now used words.old result words.new }
     ensures kept { Kept terms 1 words.old used result words.new }
