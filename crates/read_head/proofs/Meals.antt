@@ -1,5 +1,5 @@
 -- A meal code that is read is at most 6.
-use Rattle.std.specs.Prelude.{Ok, Err}
+use Rattle.std.specs.Prelude.{Option as Maybe, Ok, Err}
 use Prim.Native.Nat.{ℕ, ◌≤◌}
 use mathlib.Core.Path.{◌≡◌, refl, subst}
 use mathlib.Core.List.{List}
@@ -53,9 +53,9 @@ tree_most lo hi (number q raw) p l = whole_most hi q l (integer_in lo hi raw) (i
 tree_most lo hi (bool q b) p l = omega arith
 tree_most lo hi (null q) p l = omega arith
 
-slot_most : (lo hi : ℕ) (text : List ℕ) (v : ℕ) (f : Found Value) → Slot text v f → (p : Place) (l : State) → get_or (value (optional (a_number (integer lo hi)) p f l)) 0 ≤ hi
+slot_most : (lo hi : ℕ) (text : List ℕ) (v : Maybe ℕ) (f : Found Value) → Slot text v f → (p : Place) (l : State) → get_or (value (optional (a_number (integer lo hi)) p f l)) 0 ≤ hi
 slot_most lo hi text v f empty p l = omega arith
-slot_most lo hi text v f (filled {t = t} h a) p l = tree_most lo hi t p l
+slot_most lo hi text v f (filled {t = t} a) p l = tree_most lo hi t p l
 
-pub given_most : (lo hi : ℕ) (text : List ℕ) (v : ℕ) (f : Found Value) → Slot text v f → (p : Place) (l l' : State) (x : Option ℕ) → optional (a_number (integer lo hi)) p f l ≡ done x l' → get_or x 0 ≤ hi
+pub given_most : (lo hi : ℕ) (text : List ℕ) (v : Maybe ℕ) (f : Found Value) → Slot text v f → (p : Place) (l l' : State) (x : Option ℕ) → optional (a_number (integer lo hi)) p f l ≡ done x l' → get_or x 0 ≤ hi
 given_most lo hi text v f s p l l' x e = subst (λ (o : Outcome (Option ℕ)). get_or (value o) 0 ≤ hi) e (slot_most lo hi text v f s p l)

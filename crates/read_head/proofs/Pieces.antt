@@ -7,6 +7,7 @@ use mathlib.Core.Option.{Option, none, some}
 use native.Mathlib.Omega.{arith}
 use lib.ListN.{drop}
 use borrow.Author.Tests.{eq-eqb, ne_eqb}
+use Rattle.std.specs.Prelude.{Option as Maybe, Result, Ok, Err}
 use Rattle.json_grammar.specs.Tree.{Place}
 use Rattle.document.specs.Bytes.{bytes}
 use Rattle.document.specs.Posology as P
@@ -15,13 +16,13 @@ use Rattle.document.specs.Schema.{Rows, unit_if, a_text}
 use Rattle.document.specs.Table.{length_of}
 use Rattle.document.specs.Visit.{State, Outcome, done, refuse, bind, present, Value, needed, fields}
 use Rattle.document.specs.At.{Slot}
+use Rattle.document.specs.declared.refusal.Refusal.{Refusal}
 use Rattle.document.specs.declared.terms.Terms.{Terms}
 use Rattle.document.specs.declared.terms.Used.{Used}
 use Rattle.read_fields.specs.Fields.{StringIs, Words, WordsFrom, ReadsText}
 use Rattle.read_details.specs.Holding.{PieceOf}
 use Rattle.read_head.specs.HeadRows.{unit_read, piece_at}
 use Rattle.read_fields.specs.declared.field.Worded.{Worded}
-use Rattle.read_fields.specs.declared.field.Worded.TheVariants as W
 use Rattle.read_records.specs.declared.read.Piece.{Piece}
 
 -- A string's piece, and its length.
@@ -36,12 +37,12 @@ length_of_lem text q n none h = sym h.1
 length_of_lem text q n (some cs) h = h.1
 
 -- "unit (optional for use 3)": a needed string is present.
-present_words : (terms : Terms) (text : List ℕ) (o : Outcome (List ℕ)) (r : Worded) → Words terms text o (λ cs. some cs) r → Words terms text (present o) (λ x. x) r
-present_words terms text o (W.Is q n v) h =
+present_words : (terms : Terms) (text : List ℕ) (o : Outcome (List ℕ)) (r : Result Worded Refusal) → Words terms text o (λ cs. some cs) r → Words terms text (present o) (λ x. x) r
+present_words terms text o (Ok w) h =
     record { value = some h.value; state = h.state; outcome = ap (λ (o : Outcome (List ℕ)). present o) h.outcome; tells = h.tells; holds = h.holds }
-present_words terms text o (W.Refused n p) h = record { outcome = ap (λ (o : Outcome (List ℕ)). present o) h.outcome; inside = h.inside }
+present_words terms text o (Err r) h = record { outcome = ap (λ (o : Outcome (List ℕ)). present o) h.outcome; inside = h.inside }
 
-pub unit_needed : (terms : Terms) (text : List ℕ) (brace v : ℕ) (u : Used) (r : Worded) → ReadsText terms text brace v u r
+pub unit_needed : (terms : Terms) (text : List ℕ) (brace : ℕ) (v : Maybe ℕ) (u : Used) (r : Result Worded Refusal) → ReadsText terms text brace v u r
     → (f : Found Value) → Slot text v f → WordsFrom terms text u (unit_read false (drop brace text) f) (λ x. x) r
 unit_needed terms text brace v u r h f slot s tells = present_words terms text (needed a_text (drop brace text) f s) r (h f slot s tells)
 
