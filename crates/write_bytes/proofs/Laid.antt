@@ -86,10 +86,6 @@ puts_then {before} {from} {text} {mid} {rest} {r} {s} {between} {after} p q =
           ∙ sym (sets_append xs ys before from);
     }
 
--- The place behind is told by a number too.
-pub puts_near : {before : List ℕ} {from : ℕ} {text rest : List ℕ} {r : ℕ} {after : List ℕ} → Puts before from text rest r after → from ≤ greatest_place → r ≤ greatest_place
-puts_near {from = from} p h = omega (arith, p.place h, up_to_lem (from + length p.bytes))
-
 -- The same text, said in another way.
 pub puts_as : {before : List ℕ} {from : ℕ} {text other rest : List ℕ} {r : ℕ} {after : List ℕ} → text ≡ other → Puts before from other rest r after → Puts before from text rest r after
 puts_as e p = record { bytes = p.bytes; in_front = e ∙ p.in_front; place = p.place; laid = p.laid }

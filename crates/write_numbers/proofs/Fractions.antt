@@ -46,13 +46,6 @@ module _ {before out : Output} {n left scale : ℕ} where
   pub behind_end : Behind before out n left scale → left ≤ 0 → (k : List ℕ) → Lays before (fraction_digits 6 100000 n ++ k) k out
   behind_end b h k = let e : left ≡ 0 = omega arith in rw (e, none_left b.places scale) at (b.laid k)
 
-  pub scale_left : Behind before out n left scale → 0 < left → 0 < scale
-  scale_left b h = go b.places b.scales b.ends
-    where
-      go : (f : ℕ) → Scales f scale → Ends f scale left → 0 < scale
-      go zero s e = omega arith
-      go (suc f) s e = s.0
-
   pub behind_on : {d : ℕ} {after : Output} → Behind before out n left scale → 0 < left → d ≡ 48 + left / scale % 10
       → ((k : List ℕ) → Lays out (d ∷ k) k after) → Behind before after n (left % scale) (scale / 10)
   behind_on {d} {after} b h e q = go b.places b.scales b.ends b.laid
