@@ -47,12 +47,15 @@ pub fn put_whole(out: &mut [u8], from: usize, number: u64) -> usize
     output.end()
 }
 
+// The dosage of a cycle comes so often in it where nothing else is said.
+const ONCE: u64 = 1;
+
 // How often a cycle's dosage comes in it, left out where that is once; and the brace that ends the cycle.
 pub fn put_per_cycle(out: &mut Output<'_>, per: u64)
     ensures { (k : List ℕ) → Lays out.old (more_members (field_if (not (eqb (per % 1000000) 1)) "tdpc" (whole (per % 1000000)) no_member) k) k out.new }
 {
     let n = per % 1000000;
-    if n != 1 {
+    if n != ONCE {
         out.put_all(b",\"tdpc\":");
         put_digits(out, n);
     }
