@@ -2,7 +2,7 @@
 use Prim.Native.Nat.{ℕ, ◌≤◌}
 use mathlib.Core.Path.{◌≡◌, refl, sym, ap, subst, ◌∙◌}
 use mathlib.Core.List.{List}
-use mathlib.Core.Bool.{true, false}
+use mathlib.Core.Bool.{true}
 use native.Mathlib.Omega.{arith}
 use lib.ListN.{length}
 use Rattle.json_move.specs.Read.{tree_of}
@@ -27,7 +27,7 @@ use Rattle.document.specs.Words.{words_at_most}
 use Rattle.read_dosages.specs.Kept.{Ready}
 use Rattle.read_head.specs.Heads.{HeadDone, HeadReads, ReadsHead}
 use Rattle.read_records.specs.declared.read.HeadRead.{HeadRead}
-use Rattle.read_table.specs.Built.{built, strings_laid}
+use Rattle.read_table.specs.Built.{strings_laid}
 use Rattle.read_table.proofs.Made.{table_made}
 use Rattle.read_table.proofs.Lays.{strings_laid_lem}
 use Rattle.posology.specs.Reader.{Walked, words_table, WordsOf, ReadsWords}

@@ -57,6 +57,7 @@ pub fn answer_of(r: Result<NextWords, Refusal>) -> Result<Next, Refusal>
     }
 }
 
+#[tactic(auto, unfolding(crate::specs::Next::next_words_table))]
 fn table_of(r: Result<NextWords, Refusal>, words: &[u64; WORDS]) -> Table
     ensures { result ≡ next_words_table r words.now }
 {

@@ -7,9 +7,7 @@ ghost use Rattle.document.specs.Valid.{room_of};
 ghost use Rattle.posology.specs.Reader.{Walked, words_values, words_table, WordsOf, ReadsWords};
 
 use document::refusal::Refusal;
-use document::table::{
-    Date, Head, Kind, RECORDS, Reading, Record, TEXT_ROOM, Table, Text, WORDS,
-};
+use document::table::{Date, Head, Kind, RECORDS, Reading, Record, TEXT_ROOM, Table, Text, WORDS};
 use document::terms;
 use document::terms::Terms;
 use read_head::head;
@@ -84,6 +82,7 @@ pub fn read_words(
     walked_words(text, purpose, strings, words)
 }
 
+#[tactic(auto, unfolding(crate::specs::Reader::words_table))]
 fn reading_of(r: Result<HeadRead, Refusal>, words: &[u64; WORDS]) -> Reading
     ensures answer_value { answer_values result.answer ≡ words_values r }
     ensures table_value { result.table ≡ words_table r words.now }

@@ -1,8 +1,7 @@
 -- What is read makes the reading.
-use mathlib.Core.Path.{ap, ◌∙◌}
-use Rattle.document.specs.Values.{next_values}
+use mathlib.Core.Path.{◌∙◌}
 use Rattle.posology.proofs.next.read_next.Goals as goal
 
 pub returns : goal.returns
 returns c =
-    record { answer = ap next_values c.reading_of.ensures.answer_value ∙ c.next_words-w.ensures.answer; table = c.reading_of.ensures.table_value ∙ c.next_words-w.ensures.table; left = c.next_words-w.ensures.left }
+    record { answer = c.answer_of.ensures ∙ c.next_words-r.ensures.answer; table = c.table_of.ensures ∙ c.next_words-r.ensures.table; left = c.next_words-r.ensures.left }
