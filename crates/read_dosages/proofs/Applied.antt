@@ -2,9 +2,9 @@
 use Prim.Native.Nat.{ℕ, ◌*◌, ◌-◌}
 use mathlib.Core.Path.{◌≡◌, refl, ap, ◌∙◌}
 use mathlib.Core.List.{List, []}
-use mathlib.Core.Bool.{Bool, true, cond}
+use mathlib.Core.Bool.{Bool, cond}
 use lib.Seq.{sets}
-use Rattle.std.specs.Prelude.{Option, Ok, Err}
+use Rattle.std.specs.Prelude.{Ok, Err}
 use Rattle.json_grammar.specs.Tree.{Place}
 use Rattle.document.specs.Posology as P
 use Rattle.document.specs.Lookup.{Entry, find}
@@ -19,19 +19,15 @@ use Rattle.document.specs.declared.terms.Used.{Used}
 use Rattle.read_names.specs.Names.{spelled}
 use Rattle.read_names.specs.declared.names.Name.{Name}
 use Rattle.read_names.specs.declared.names.Name.TheVariants as N
-use Rattle.read_fields.specs.Fields.{Refuses, ReadsTime, CountsFrom, itself}
+use Rattle.read_fields.specs.Fields.{Refuses, CountsFrom, itself}
 use Rattle.read_fields.specs.declared.field.Counted.{Counted}
 use Rattle.read_fields.proofs.Refusals.{refuses_as, refuses_bind}
-use Rattle.read_dosages.specs.Visiting.{Did, DosageRows, an_application, ApplicationRows, own_field, ReadsOwn}
+use Rattle.read_dosages.specs.Visiting.{Did, DosageRows, an_application, ApplicationRows, own_field}
 use Rattle.read_dosages.proofs.Rowed.{above_did}
 use Rattle.read_dosages.proofs.Bodies.{Comes, done_bind}
 use Rattle.read_dosages.proofs.Alike.{application}
 use Rattle.read_dosages.proofs.Known.{application_fields}
 use Rattle.read_dosages.proofs.Chunks.{application_rows, counted}
-
--- A time of day leaves what is taken alone.
-pub time_own : (text : List ℕ) (brace : ℕ) {v : Option ℕ} (u : Used) (n : ℕ) → ReadsTime text brace v (Ok n) → ReadsOwn true text brace v u (Ok (record { value = n; used = u }))
-time_own text brace u n reads found slot terms s tells = record { value = n; state = s; outcome = reads found slot s; tells = tells; holds = refl }
 
 -- The two fields in turn.
 module _ (timed : Bool) {own : Name} (named : own ≡ cond timed N.Dt N.S) {terms : Terms} {text : List ℕ} {o : Outcome (OfFamily (an_application timed))} {p : Place} {es : List (Entry Value)} {w : Used}

@@ -1,5 +1,5 @@
 -- Timed dosages under their parents: how one is opened.
-use Prim.Native.Nat.{ℕ, ◌<◌, ◌≤◌}
+use Prim.Native.Nat.{ℕ, ◌≤◌}
 use mathlib.Core.Path.{◌≡◌, refl, ap, ◌∙◌}
 use mathlib.Core.List.{List, [], ◌∷◌}
 use mathlib.Core.Bool.{true, false}
@@ -28,10 +28,6 @@ use Rattle.read_dosages.proofs.Rowed.{visited_as, visited_still}
 
 pub stands_still : {parent : ℕ} {u : Used} {kind : ℕ} {v : Used} → Stands parent u kind v → Still u v
 stands_still s = record { records = s.records; text = s.text }
-
--- Opened, and a record is left.
-pub under_there : (parent : ℕ) {u : Used} {kind : ℕ} {v : Used} → among kind (types_under parent) ≡ true → v.records < 64 → Still u v → Stands parent u kind v
-under_there parent stand few s = record { allowed = stand; few = few; records = s.records; text = s.text }
 
 module _ {text : List ℕ} {at : ℕ} {u : Used} {es : List (Entry Waits)} {o : Opened} (parent : ℕ) (x : Typed 6 text at u es o) where
   -- What is left to be read is its body.

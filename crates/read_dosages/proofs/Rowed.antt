@@ -55,10 +55,7 @@ pub count_below : {B : Type 0} {terms : Terms} {text : List ℕ} {u v : Used} {b
     → length d.chunk ≡ n * width → v.records ≡ u.records + n
 count_below d n h = omega (arith, d.size)
 
--- What is kept where a visit is refused, and where it is done.
-pub kept_refused : (terms : Terms) (least : ℕ) {before after : List ℕ} (u : Used) {r : Refusal} → length after ≡ length before → Kept terms least before u (Err r) after
-kept_refused terms least u s = record { size = s; grown = tt }
-
+-- What is kept where a visit is done.
 pub kept_done : {terms : Terms} {least : ℕ} {before after : List ℕ} {u v : Used} → length after ≡ length before → Grown terms least u v → Kept terms least before u (Ok v) after
 kept_done s g = record { size = s; grown = g }
 

@@ -3,7 +3,7 @@ use mathlib.Core.Path.{refl, sym, ◌∙◌}
 use native.Mathlib.Omega.{arith}
 use Rattle.read_fields.proofs.Refusals.{refuses_as, raised}
 use Rattle.read_dosages.specs.Visiting.{an_application, ApplicationRows}
-use Rattle.read_dosages.proofs.Rowed.{did_as, kept_refused, kept_done}
+use Rattle.read_dosages.proofs.Rowed.{did_as, kept_done}
 use Rattle.read_dosages.proofs.Chunks.{no_application, applications_join}
 use Rattle.read_dosages.proofs.Listing.{going_starts, going_over, going_refused, going_on}
 use Rattle.read_dosages.proofs.application.read_applications.Goals as goal
@@ -12,35 +12,21 @@ pub loop-terms-init : goal.loop-terms-init
 loop-terms-init c =
     (c.requires.0, omega arith, refl, λ l tells p es a. going_starts _ _ _ _ _ _ tells a c.first_in-e.ensures)
 
-pub returns-in_err-v : goal.returns-in_err-v
-returns-in_err-v c =
-    rw (raised c.from_residual.result c.from_residual.ensures.1) (record {
-      visits_each = λ l tells p es a.
-          let g = c.loop-terms.invariant.3 l tells p es a in
-          going_refused _ _ _ _ g (sym c.at_end.ensures ∙ c.loop-terms-test.true) c.in_err-v.field-0.0 c.loop-terms.words (λ t h. c.in_err-v.ensures.object_at t h (an_application c.args.timed) g.state) refl;
-      kept = kept_refused c.args.terms 0 c.args.first c.loop-terms.invariant.2;
-    })
+pub returns-in_err-v-clause-visits_each : goal.returns-in_err-v-clause-visits_each
+returns-in_err-v-clause-visits_each c =
+    rw (raised c.from_residual.result c.from_residual.ensures.1) (λ l tells p es a.
+    let g = c.loop-terms.invariant.3 l tells p es a in
+    going_refused _ _ _ _ g (sym c.at_end.ensures ∙ c.loop-terms-test.true) c.in_err-v.field-0.0 c.loop-terms.words (λ t h. c.in_err-v.ensures.object_at t h (an_application c.args.timed) g.state) refl)
 
-pub read_application-requires : goal.read_application-requires
-read_application-requires c =
-    (c.loop-terms.invariant.0, omega (arith, c.in_ok-v.ensures.inside))
-
-pub returns-in_err-used : goal.returns-in_err-used
-returns-in_err-used c =
-    rw (raised c.from_residual-in_err-used.result c.from_residual-in_err-used.ensures.1) (record {
-      visits_each = λ l tells p es a.
-          let g = c.loop-terms.invariant.3 l tells p es a in
-          going_refused _ _ _ _ g (sym c.at_end.ensures ∙ c.loop-terms-test.true) c.in_err-used.field-0.0 c.read_application.new.words
-          (λ t h.
-          let x = c.in_ok-v.ensures.object_at t h in
-          refuses_as (x.outcome (an_application c.args.timed) g.state) (c.in_err-used.ensures.visits_object g.state g.tells x.place x.inner x.stands).0)
-          c.in_err-used.ensures.kept.size;
-      kept = kept_refused c.args.terms 0 c.args.first (c.in_err-used.ensures.kept.size ∙ c.loop-terms.invariant.2);
-    })
-
-pub loop-terms-smaller : goal.loop-terms-smaller
-loop-terms-smaller c =
-    let grown = c.in_ok-used.ensures.kept.grown in omega (arith, grown.some, grown.few)
+pub returns-in_err-used-clause-visits_each : goal.returns-in_err-used-clause-visits_each
+returns-in_err-used-clause-visits_each c =
+    rw (raised c.from_residual-in_err-used.result c.from_residual-in_err-used.ensures.1) (λ l tells p es a.
+    let g = c.loop-terms.invariant.3 l tells p es a in
+    going_refused _ _ _ _ g (sym c.at_end.ensures ∙ c.loop-terms-test.true) c.in_err-used.field-0.0 c.read_application.new.words
+    (λ t h.
+    let x = c.in_ok-v.ensures.object_at t h in
+    refuses_as (x.outcome (an_application c.args.timed) g.state) (c.in_err-used.ensures.visits_object g.state g.tells x.place x.inner x.stands).0)
+    c.in_err-used.ensures.kept.size)
 
 pub loop-terms-preserved : goal.loop-terms-preserved
 loop-terms-preserved c =
