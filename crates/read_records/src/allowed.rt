@@ -5,6 +5,7 @@ ghost use Rattle.document.specs.Schema.{under_cyclic};
 ghost use Rattle.read_records.specs.Under.{types_under};
 
 // "Which kind may stand under which is one fixed table": a row a parent, 1 where the type 0 to 6 may stand under it.
+// The parents are numbers, since a timed dosage is asked for under any number, and refused under one that is none of these.
 pub const UNDER_SINGLE: usize = 0;
 
 pub const UNDER_DAYS: usize = 1;

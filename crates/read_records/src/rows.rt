@@ -13,23 +13,13 @@ pub fn is_full(used: Used) -> bool
     RECORDS <= used.records
 }
 
-// The records behind record i.
-fn below(i: usize, used: Used) -> usize
-    ensures { result ≡ used.records - i - 1 }
-{
-    if used.records <= i {
-        return 0;
-    }
-    used.records - i - 1
-}
-
 // Record i, once those below it are visited: they took up to `used`.
 pub fn store(words: &mut [u64], i: usize, used: Used, tag: u64, a: u64, b: u64, c: u64, d: u64)
     ensures { words.new ≡ written words.old i (words_of (used.records - i - 1) tag a b c d) }
 {
     let row = Row {
         tag,
-        below: below(i, used),
+        below: used.records.saturating_sub(i).saturating_sub(1),
         a,
         b,
         c,
