@@ -1,11 +1,14 @@
 -- A text read for use 3 and put again: whether it is a plain text.
 use mathlib.Core.Path.{◌≡◌, refl, ap, sym, ◌∙◌}
-use mathlib.Core.List.{List}
-use mathlib.Core.Bool.{Bool, true, false, cond}
+use mathlib.Core.List.{List, [], ◌∷◌}
+use mathlib.Core.Bool.{Bool, true, false, cond, ◌&&◌}
 use mathlib.Core.Option.{Option, none, some}
 use Prim.Native.Nat.{ℕ, ◌<◌}
 use native.Mathlib.Omega.{arith}
+use lib.Dec.{eqb}
 use lib.ListN.{length, take}
+use Rattle.std.specs.Cmp.Lexicographic.{pointwise}
+use Rattle.std.specs.Prelude.{Ok, Err}
 use Rattle.json_grammar.proofs.Truth.{never_true}
 use Rattle.document.specs.Lookup.{same}
 use Rattle.document.specs.Posology.{Posology}
@@ -13,18 +16,20 @@ use Rattle.document.specs.Plain.{plain}
 use Rattle.document.specs.Answer.{Read, taken, refused, read}
 use Rattle.document.specs.Write.{in_greatest_room}
 use Rattle.document.specs.Length.{greatest_length}
-use Rattle.document.specs.declared.table.Writing.TheVariants as W
+use Rattle.document.specs.Refusals.{number_of}
+use Rattle.document.specs.declared.refusal.Refusal.{Refusal}
 use Rattle.document_meaning.proofs.Lengths.{plain_within}
-use Rattle.document.proofs.Same.{same_refl, same_equal}
 use Rattle.shelf_list.specs.Shelf.{both_uses, is_given, if_plain, plain_of, is_plain}
 use Rattle.shelf_list.proofs.Records.{plain_of_text}
 use Rattle.rewriter.specs.Rewriting.{Rewrites}
 use Rattle.rewriter.proofs.Reread.{read_refused, read_taken}
 
--- As the comparison of two slices tells it.
-pub told_same : (s t : List ℕ) (r : Bool) → (r ≡ true → s ≡ t) → (s ≡ t → r ≡ true) → r ≡ same s t
-told_same s t true f g = sym (ap (λ (x : List ℕ). same x t) (f refl) ∙ same_refl t)
-told_same s t false f g = never_true (same s t) (λ e. let i = g (same_equal s t e) in let z : ◌≡◌ {A = ℕ} 0 1 = cc in omega arith)
+-- As `==` compares two slices.
+compared : (s t : List ℕ) → pointwise eqb s t ≡ same s t
+compared [] [] = refl
+compared [] (y ∷ t) = refl
+compared (x ∷ s) [] = refl
+compared (x ∷ s) (y ∷ t) = ap (λ (b : Bool). eqb x y && b) (compared s t)
 
 -- A text that is longer than every plain text is none.
 pub too_long_for_plain : (text : List ℕ) → greatest_length < length text → false ≡ is_plain text
@@ -47,14 +52,16 @@ is_same p true = refl
 is_same p false = refl
 
 -- What is refused is none.
-pub refused_none : {text before after : List ℕ} {n place : ℕ} → Rewrites both_uses text before (W.Refused n place) after
-    → false ≡ is_plain text
-refused_none {text} {n = n} {place = place} h = sym (plain_of_read_lem text (refused n place) (read_refused h))
+pub refused_none : {text before after : List ℕ} {why : Refusal} → Rewrites both_uses text before (Err why) after → false ≡ is_plain text
+refused_none {text} {why = why} h = sym (plain_of_read_lem text (refused (number_of why.0) why.1) (read_refused h))
 
 -- What was put stands first in the buffer: the text is plain where it is the same.
-pub plain_if_same : {text before after : List ℕ} {n : ℕ} → Rewrites both_uses text before (W.Written n) after
-    → same (take n after) text ≡ is_plain text
-plain_if_same {text} h =
+pub plain_if_same : {text before after : List ℕ} {n : ℕ} {b : Bool} → Rewrites both_uses text before (Ok n) after
+    → b ≡ pointwise eqb (take n after) text → b ≡ is_plain text
+plain_if_same {text} {after = after} {n = n} h e =
     let r = read_taken h in
     let p = r.posology in
-    ap (λ (s : List ℕ). same s text) r.first ∙ sym (is_same p (same (plain p) text)) ∙ sym (plain_of_read_lem text (taken p) r.taken)
+    e ∙ compared (take n after) text
+    ∙ ap (λ (s : List ℕ). same s text) r.first
+    ∙ sym (is_same p (same (plain p) text))
+    ∙ sym (plain_of_read_lem text (taken p) r.taken)

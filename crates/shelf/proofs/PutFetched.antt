@@ -2,6 +2,7 @@
 use mathlib.Core.Path.{◌≡◌, refl, ap, sym, ◌∙◌}
 use mathlib.Core.List.{List}
 use Prim.Native.Nat.{ℕ}
+use Rattle.std.specs.Prelude.{Ok}
 use lib.ListN.{length}
 use Rattle.json_grammar.proofs.Truth.{never}
 use Rattle.document.specs.Posology.{Posology}
@@ -11,7 +12,6 @@ use Rattle.document.specs.Answer.{Read, read, read_values, table_after, buffer_a
 use Rattle.document.specs.Values.{answer_values, accepted}
 use Rattle.document.specs.Write.{in_greatest_room}
 use Rattle.document.specs.declared.table.Reading.{Reading}
-use Rattle.document.specs.declared.table.Answer.TheVariants.{Taken}
 use Rattle.document_meaning.proofs.Numbered.{reading_one}
 use Rattle.document_meaning.proofs.Spelled.{accepted_spells}
 use Rattle.demands.proofs.Demand2.{spells_one}
@@ -21,7 +21,7 @@ use Rattle.shelf_list.specs.Grounds as G
 use Rattle.shelf_list.proofs.Wish2.{stored_iff, put_fetches}
 use Rattle.shelf.specs.Answers.{Fetches}
 
-taken_by : {purpose : ℕ} {text before after : List ℕ} {r : Reading} → Reads purpose text before r after → r.answer ≡ Taken
+taken_by : {purpose : ℕ} {text before after : List ℕ} {r : Reading} → Reads purpose text before r after → r.answer ≡ Ok tt
     → (p : Posology) × (read (terms_of purpose before) text ≡ R.taken p)
 taken_by {purpose} {text} {before} h t = go (read (terms_of purpose before) text) refl (sym (ap answer_values t) ∙ h.answer)
   where
@@ -37,7 +37,7 @@ put_read_lem (G.put_taken {p = p} i s e room long) = (p, e)
 
 -- Reading the text takes it, put stored it: fetching it gives the same answer, the same table and the same bytes of the buffer.
 pub fetched_as_read : {number purpose l : ℕ} {text area area' before after after' : List ℕ} {r r' : Reading}
-    → Serves (put number purpose text) area (stored l) area' → Reads purpose text before r after → r.answer ≡ Taken
+    → Serves (put number purpose text) area (stored l) area' → Reads purpose text before r after → r.answer ≡ Ok tt
     → Fetches number area' before r' after' → (r' ≡ r) × (after' ≡ after)
 fetched_as_read {number} {purpose} {l} {text} {area} {area'} {before} s h t f =
     let q = taken_by h t in

@@ -1,19 +1,16 @@
 -- Document 02, Wish 2: the number and values of each case of an answer, and the promise of fetching.
 use Rattle.std.specs.Prelude.{◌≡◌, List, cond, ℕ, ◌+◌, length, Result, Ok, Err}
-use Rattle.std.proofs.Math.Option.{Option, none, some}
 use Rattle.std.proofs.lemmas.List.Edits.{sets}
-use Rattle.json_grammar.specs.Rows.{choose}
 use Rattle.document.specs.Values.{answer_values}
 use Rattle.document.specs.Answer.{read_values, table_after, buffer_after}
 use Rattle.document.specs.declared.table.Reading.{Reading}
-use Rattle.shelf_list.specs.Shelf.{Entry, is_number, stands, entries_in}
 use Rattle.shelf_list.specs.Calls.{Answer, stored, removed, standing, refused, fetched_from}
 use Rattle.shelf_bytes.specs.Layout.{record_bytes, has_room}
-use Rattle.shelf.specs.Survey.{place_under, size_under}
-use Rattle.document.specs.Refusals.{number_of, refusal}
-use Rattle.document.specs.declared.refusal.Reason.TheVariants.{NoShelf, NoNumber, NumberMissing}
+use Rattle.shelf.specs.Survey.{record_of}
+use Rattle.document.specs.Refusals.{number_of}
 use Rattle.document.specs.declared.refusal.Refusal.{Refusal}
 use Rattle.shelf.specs.declared.fetching.Stretch.{Stretch}
+use Rattle.shelf.specs.declared.survey.Place.{Place}
 
 abbrev pub refused_answer : Refusal → Answer
 refused_answer r = refused (number_of r.0) r.1
@@ -45,16 +42,9 @@ pub record Fetches (number : ℕ) (area before : List ℕ) (r : Reading) (after 
 abbrev pub stretch : ℕ → ℕ → Stretch
 stretch from to = record { from = from; to = to }
 
-abbrev pub found_under : List Entry → ℕ → Result Stretch Refusal
-found_under es number =
-    choose (is_number number) (λ _.
-    cond (stands number es) (Ok (stretch (place_under number es + 6) (place_under number es + size_under number es))) (Err (refusal NumberMissing 0))) λ _.
-    Err (refusal NoNumber 0)
+abbrev pub behind_head : Result Place Refusal → Result Stretch Refusal
+behind_head (Ok p) = Ok (stretch (p.from + 6) (p.from + p.size))
+behind_head (Err r) = Err r
 
-abbrev pub found_in : Option (List Entry) → ℕ → Result Stretch Refusal
-found_in none number = Err (refusal NoShelf 0)
-found_in (some es) number = found_under es number
-
-unfoldable pub found : List ℕ → ℕ → Result Stretch Refusal
-unfolding entries_in
-found a number = found_in (entries_in a) number
+abbrev pub found : List ℕ → ℕ → Result Stretch Refusal
+found a number = behind_head (record_of a number)

@@ -1,12 +1,13 @@
 -- What going over an area once tells of it.
-use Rattle.std.specs.Prelude.{◌≡◌, List, [], ◌∷◌, Bool, true, false, cond, ◌&&◌, ℕ, ◌+◌, eqb, length, take, drop, Option as Maybe, Some, None, Result, Ok, Err}
+use Rattle.std.specs.Prelude.{◌≡◌, List, [], ◌∷◌, Bool, true, false, cond, ◌&&◌, ℕ, ◌+◌, eqb, length, take, drop, Option as Maybe, Some, None, ok_or, Result, Ok, Err}
 use Rattle.std.proofs.Math.Option.{Option, none, some}
-use Rattle.shelf_list.specs.Shelf.{Entry, is_number, size, used, stands, is_plain, number_at, begins}
+use Rattle.shelf_list.specs.Shelf.{Entry, is_number, size, used, is_plain, number_at, begins, entries_in}
 use Rattle.shelf_list.specs.Calls.{number_standing}
 use Rattle.shelf_bytes.specs.Marks.{marked, mark, is_new}
 use Rattle.document.specs.Refusals.{refusal}
-use Rattle.document.specs.declared.refusal.Reason.TheVariants.{NoShelf, NoNumber}
+use Rattle.document.specs.declared.refusal.Reason.TheVariants.{NoShelf, NoNumber, NumberMissing}
 use Rattle.document.specs.declared.refusal.Refusal.{Refusal}
+use Rattle.shelf.specs.declared.survey.Place.{Place}
 use Rattle.shelf.specs.declared.survey.Survey.{Survey}
 
 -- The text of the record at a place.
@@ -23,14 +24,16 @@ pub record Passes (set a : List ℕ) (i : ℕ) (r : Maybe ℕ) (set' : List ℕ)
   pub size : r ≡ cond (is_record set a i) (Some (6 + number_at (drop i a) 4)) None
   pub noted : is_record set a i ≡ true → set' ≡ mark set (number_at (drop i a) 2)
 
--- Where the record of a number begins, and how many bytes it takes: 0 and 0 where it is not there.
-abbrev pub place_under : ℕ → List Entry → ℕ
-place_under n [] = 0
-place_under n (e ∷ es) = cond (eqb n e.number) 0 (cond (stands n es) (size e + place_under n es) 0)
+-- Where the record of a number stands, in a list that is laid out from a place on.
+abbrev pub place : ℕ → ℕ → Place
+place from size = record { from = from; size = size }
 
-abbrev pub size_under : ℕ → List Entry → ℕ
-size_under n [] = 0
-size_under n (e ∷ es) = cond (eqb n e.number) (size e) (size_under n es)
+abbrev pub place_from : ℕ → ℕ → List Entry → Maybe Place
+place_from i n [] = None
+place_from i n (e ∷ es) = cond (eqb n e.number) (Some (place i (size e))) (place_from (i + size e) n es)
+
+abbrev pub place_under : ℕ → List Entry → Maybe Place
+place_under = place_from 0
 
 -- Of the number and the position that are asked for.
 abbrev pub survey_of : ℕ → ℕ → List Entry → Survey
@@ -38,8 +41,7 @@ survey_of number position es =
     record {
       used = used es;
       count = length es;
-      from = place_under number es;
-      size = size_under number es;
+      found = place_under number es;
       standing = number_standing position es;
     }
 
@@ -54,8 +56,7 @@ with_record s n size number position =
     record {
       used = s.used + size;
       count = s.count + 1;
-      from = cond (eqb n number) s.used s.from;
-      size = cond (eqb n number) size s.size;
+      found = cond (eqb n number) (Some (place s.used size)) s.found;
       standing = cond (eqb s.count position) n s.standing;
     }
 
@@ -63,3 +64,12 @@ with_record s n size number position =
 abbrev pub asked : Maybe Survey → ℕ → Result Survey Refusal
 asked None number = Err (refusal NoShelf 0)
 asked (Some s) number = cond (is_number number) (Ok s) (Err (refusal NoNumber 0))
+
+-- ".. 23": the record of a number.
+abbrev pub record_in : Option (List Entry) → ℕ → Result Place Refusal
+record_in none number = Err (refusal NoShelf 0)
+record_in (some es) number = cond (is_number number) (ok_or (place_under number es) (refusal NumberMissing 0)) (Err (refusal NoNumber 0))
+
+unfoldable pub record_of : List ℕ → ℕ → Result Place Refusal
+unfolding entries_in
+record_of a number = record_in (entries_in a) number

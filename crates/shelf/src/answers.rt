@@ -1,9 +1,11 @@
-// What every call looks at first, in the order of document 02, Wish 2: whether the area is a shelf, and whether the number is one.
+// What every call looks at first, in the order of document 02, Wish 2: whether the area is a shelf, whether the number is one, and where its record
+// stands.
 ghost use Rattle.std.specs.Prelude.{◌≡◌};
-ghost use Rattle.shelf.specs.Survey.{asked};
+ghost use Rattle.shelf.specs.Survey.{asked, record_of};
 
-use crate::survey::Survey;
+use crate::survey::{Place, Survey, go_over};
 use document::refusal::{Reason, Refusal};
+use document::table::LONGEST_PLAIN;
 
 // "a number from 1 to 65,535"
 const GREATEST: u64 = 65535;
@@ -12,11 +14,18 @@ const GREATEST: u64 = 65535;
 pub(crate) fn asked(survey: Option<Survey>, number: u64) -> Result<Survey, Refusal>
     ensures { result ≡ asked survey number }
 {
-    let Some(s) = survey else {
-        return Err(Refusal(Reason::NoShelf, 0));
-    };
+    let s = survey.ok_or(Refusal(Reason::NoShelf, 0))?;
     if number < 1 || GREATEST < number {
         return Err(Refusal(Reason::NoNumber, 0));
     }
     Ok(s)
+}
+
+// ".. 23"
+pub(crate) fn record_of(area: &[u8], number: u64) -> Result<Place, Refusal>
+    ensures { result ≡ record_of area.now number }
+{
+    let mut scratch = [0u8; LONGEST_PLAIN];
+    let s = asked(go_over(area, number, 0, &mut scratch), number)?;
+    s.found.ok_or(Refusal(Reason::NumberMissing, 0))
 }

@@ -11,8 +11,6 @@ pub fn at(area: &[u8], position: u64) -> Result<u64, Refusal>
     ensures { at_answer result ≡ (on_area (at position) area.now).answer }
 {
     let mut scratch = [0u8; LONGEST_PLAIN];
-    match go_over(area, 0, position, &mut scratch) {
-        Some(s) => Ok(s.standing as u64),
-        None => Err(Refusal(Reason::NoShelf, 0)),
-    }
+    let s = go_over(area, 0, position, &mut scratch).ok_or(Refusal(Reason::NoShelf, 0))?;
+    Ok(u64::from(s.standing))
 }

@@ -23,9 +23,10 @@ pub fn put(area: &mut [u8], number: u64, text: &[u8], purpose: u64) -> Result<us
 {
     let mut scratch = [0u8; LONGEST_PLAIN];
     let s = asked(go_over(area, number, 0, &mut scratch), number)?;
-    if s.size != 0 {
+    if s.found.is_some() {
         return Err(Refusal(Reason::NumberTaken, 0));
     }
     let length = rewriter::rewrite(text, purpose, &mut scratch)?;
-    store(area, s.used, number, &scratch[..length])
+    let plain = &scratch[..length];
+    store(area, s.used, number, plain)
 }
