@@ -1,12 +1,11 @@
--- Result ℕ Refusal a table by its head, its two counts and the words of its records: as the table that they are, and refused where they are no
+-- Writing a table by its head, its two counts and the words of its records: as the table that they are, and refused where they are no
 -- readable one.
-use Rattle.std.specs.Prelude.{Result}
-use Rattle.document.specs.declared.refusal.Refusal.{Refusal}
-use Rattle.std.specs.Prelude.{◌≡◌, List, true, ℕ}
+use Rattle.std.specs.Prelude.{◌≡◌, List, Result, true, ℕ}
 use Rattle.json_grammar.specs.Rows.{choose}
 use Rattle.document.specs.Valid.{is_use}
 use Rattle.document.specs.Values.{length_values}
 use Rattle.document.specs.Write.{Write, refuses, readable, write_values, Writes}
+use Rattle.document.specs.declared.refusal.Refusal.{Refusal}
 use Rattle.document.specs.declared.table.Head.{Head}
 use Rattle.document.specs.declared.table.Table.{Table}
 use Rattle.table_words.specs.ByWords.{ByWords}

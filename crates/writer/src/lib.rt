@@ -17,7 +17,7 @@ use check_table::is_readable;
 use document::refusal::{Reason, Refusal};
 use document::table::{Head, LONGEST_PLAIN, RECORDS, TEXT_ROOM, Table, WORDS};
 use document::uses::is_use;
-pub use measuring::length;
+pub use measuring::{length, needed};
 use table_words::table_words;
 
 // As long as the plain text of a table with so many records and text bytes is at most (document 02, Wish 10).

@@ -9,7 +9,7 @@ use document::table::Table;
 
 // 19 tells the length that the buffer has to have.
 #[tactic(auto, using(crate::proofs::MeasuredLengths::no_length))]
-fn needed(why: Refusal) -> Result<usize, Refusal>
+pub fn needed(why: Refusal) -> Result<usize, Refusal>
     ensures { length_values result ≡ needed (refusal_values why) }
 {
     let Refusal(reason, place) = why;
