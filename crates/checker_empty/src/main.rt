@@ -1,4 +1,4 @@
-// The check program, run on an empty input.
+// The check program, run on an empty input: the gate runs each program on one standard input, and so it stands here again.
 #![tactic(auto)]
 
 use std::io;

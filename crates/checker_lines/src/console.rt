@@ -4,17 +4,10 @@ use std::io;
 // More bytes than a text may have, so what stands behind them changes no answer; and they hold every line.
 const BUFFER: usize = 65536;
 
-fn print(rt: &impl Print, line: &[u8], length: usize) -> io::Result<()> {
-    if length <= line.len() {
-        rt.write_all(&line[..length])?;
-    }
-    Ok(())
-}
-
 pub fn check(rt: &(impl Input + Print)) -> io::Result<()> {
     let mut input = [0u8; BUFFER];
     let mut line = [0u8; BUFFER];
     let n = input_bytes::read_full(&mut rt.reader(), &mut input)?;
     let length = crate::line(&input[..n], &mut line);
-    print(rt, &line, length)
+    rt.write_all(&line[..length.min(BUFFER)])
 }

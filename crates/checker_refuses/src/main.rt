@@ -1,4 +1,4 @@
-// The check program, run on a text that is refused.
+// The check program, run on a text that is refused: the gate runs each program on one standard input, and so it stands here again.
 #![tactic(auto)]
 
 use std::io;
