@@ -5,7 +5,10 @@ use mathlib.Core.List.{List}
 use mathlib.Core.Bool.{true}
 use lib.ListN.{length, take, drop}
 use borrow.Author.Tests.{eq-eqb, ne_eqb}
+use Rattle.std.specs.Prelude.{Ok, Err}
 use Rattle.document.specs.Posology.{Posology}
+use Rattle.document.specs.Refusals.{number_of}
+use Rattle.document.specs.declared.refusal.Refusal.{Refusal}
 use Rattle.document.specs.Plain.{plain}
 use Rattle.document.specs.Answer as R
 use Rattle.document.specs.Answer.{Read, read, buffer_after, in_room}
@@ -13,14 +16,13 @@ use Rattle.document.specs.Write.{in_greatest_room}
 use Rattle.document.specs.declared.terms.Terms.{Terms}
 use Rattle.document_meaning.proofs.Spelled.{accepted_spells, one_posology}
 use Rattle.document_meaning.proofs.PlainTexts.{plain_reads}
-use Rattle.c_answers.specs.Telling.{tells}
+use Rattle.c_answers.specs.Telling.{tells, told_refusal}
 use Rattle.c_answers.specs.declared.Told.{Told}
 use Rattle.c_area.specs.Area.{area_bytes}
 use Rattle.shelf_list.specs.Shelf.{entry, both_uses, good_entry}
 use Rattle.shelf_list.specs.Calls.{fetch_answer, fetched_from}
 use Rattle.shelf_list.proofs.Records.{good_parts}
-use Rattle.shelf.specs.Answers.{found}
-use Rattle.shelf.specs.declared.fetching.Found.TheVariants as F
+use Rattle.shelf.specs.Answers.{stretch, found}
 use Rattle.shelf.proofs.FoundTexts.{FoundText, found_text, found_refused}
 use Rattle.hospital.specs.Calls.{called, told_read, area_after, ReadsInto}
 use Rattle.hospital.specs.ShelfCalls.{told_answer, called_fetch, FetchesInto}
@@ -56,11 +58,12 @@ module _ (key : ℕ) (area strings table : List ℕ) where
   unfolding called_fetch
   fetch_sized h = rw (eq-eqb _ _ h)
 
-  pub not_found : {n : ℕ} → length table ≡ area_bytes → found area key ≡ F.Refused n → FetchesInto key area strings table n 0 strings table
+  pub not_found : (why : Refusal) → length table ≡ area_bytes → found area key ≡ Err why
+      → FetchesInto key area strings table (told_refusal why).number (told_refusal why).place strings table
   unfolding area_after
-  not_found {n} h e =
-      let r : R.refused n 0 ≡ called_fetch area key (length strings) (length table) =
-      sym (found_refused area key n (length strings) e) ∙ fetch_sized h in
+  not_found why h e =
+      let r : R.refused (number_of why.0) why.1 ≡ called_fetch area key (length strings) (length table) =
+      sym (found_refused area key why (length strings) e) ∙ fetch_sized h in
       record {
         number = ap (λ (x : Read). (told_answer (fetch_answer x)).number) r;
         place = ap (λ (x : Read). (told_answer (fetch_answer x)).place) r;
@@ -68,7 +71,7 @@ module _ (key : ℕ) (area strings table : List ℕ) where
         table_left = ap (λ (x : Read). area_after x table) r;
       }
 
-  module _ (from to : ℕ) (h : length table ≡ area_bytes) (e : found area key ≡ F.At from to) where
+  module _ (from to : ℕ) (h : length table ≡ area_bytes) (e : found area key ≡ Ok (stretch from to)) where
     abbrev text : List ℕ
     text = take (to - from) (drop from area)
 

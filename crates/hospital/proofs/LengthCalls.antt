@@ -6,31 +6,20 @@ use mathlib.Core.Bool.{Bool, true, false, false≢true}
 use native.Mathlib.Omega.{arith}
 use lib.Dec.{eqb}
 use lib.ListN.{length}
+use Rattle.std.specs.Prelude.{Result}
 use borrow.Author.Tests.{eq-eqb, ne_eqb, eqb-true, eqb-false}
 use Rattle.json_grammar.specs.Rows.{choose}
 use Rattle.document.specs.Valid.{is_use}
-use Rattle.document.specs.Values.{Values, accepted, ends, blanks_only, number}
+use Rattle.document.specs.Values.{Values, accepted, ends, blanks_only, number, length_values}
+use Rattle.document.specs.declared.refusal.Refusal.{Refusal}
 use Rattle.document.specs.Write.{Write, readable, refuses, write, write_values}
 use Rattle.document.specs.Length.{bound, greatest_length, length_of, needed}
 use Rattle.document.specs.declared.table.Table.{Table}
 use Rattle.document_meaning.proofs.TableLengths.{told_by, plain_length, length_by, written_needed, length_bounded}
-use Rattle.c_answers.specs.Telling.{tells, told}
+use Rattle.c_answers.specs.Telling.{tells, told, told_writing}
 use Rattle.c_answers.specs.declared.Told.{Told}
 use Rattle.c_area.specs.Area.{area_bytes, table_in, is_area}
-use Rattle.hospital.specs.Calls.{called_write, WritesFrom, called_length, MeasuresFrom}
-
--- 19 tells it; any other number is told as it is.
-told_19 : (v : Values) → (told v).number ≡ 19 → told (needed v) ≡ tells 0 (told v).place
-told_19 accepted e = absurd (omega arith)
-told_19 (ends n) e = absurd (omega arith)
-told_19 (blanks_only n) e = absurd (omega arith)
-told_19 (number m place) e = rw (eq-eqb m 19 e)
-
-told_other : (v : Values) → ((told v).number ≡ 19 → ⊥) → told (needed v) ≡ told v
-told_other accepted h = refl
-told_other (ends n) h = refl
-told_other (blanks_only n) h = refl
-told_other (number m place) h = rw (ne_eqb m 19 h)
+use Rattle.hospital.specs.Calls.{called_write, called_length, MeasuresFrom}
 
 told_refused : (v : Values) → ((told (needed v)).number ≡ 0 → ⊥) → told (needed v) ≡ told v
 told_refused accepted h = refl
@@ -86,27 +75,18 @@ module _ (purpose : ℕ) (area strings : List ℕ) where
       go true false b e = refl
       go false u b e = absurd (false≢true e)
 
-  module _ {n at : ℕ} {out out' : List ℕ} (p : WritesFrom purpose area strings out n at out') where
-    abbrev answer : Values
-    answer = write_values (called_write purpose area strings (length out))
+  pub length_other_size : (length area ≡ area_bytes → ⊥) → called_length purpose area strings ≡ number 19 area_bytes
+  unfolding called_length
+  length_other_size h = rw (ne_eqb _ _ h)
 
-    measures_as : {m : ℕ} → tells m at ≡ told (called_length purpose area strings) → MeasuresFrom purpose area strings m at
-    measures_as e = record { number = ap (λ (t : Told). t.number) e; place = ap (λ (t : Told). t.place) e }
+  -- What writing tells, whatever the buffer.
+  pub length_needed : length area ≡ area_bytes → (room : ℕ) {w r : Values} → w ≡ write_values (called_write purpose area strings room)
+      → r ≡ needed w → r ≡ called_length purpose area strings
+  length_needed h room e f = f ∙ ap needed e ∙ called_needed h room
 
-    as_called : tells n at ≡ told answer
-    as_called = ap (λ (m : ℕ). tells m at) p.number ∙ ap (tells (told answer).number) p.place
-
-    pub measures_other_size : (length area ≡ area_bytes → ⊥) → MeasuresFrom purpose area strings n at
-    measures_other_size h = measures_as (as_called ∙ ap told (other_size_alike h (length out)))
-
-    module _ (h : length area ≡ area_bytes) where
-      pub measures_19 : n ≡ 19 → MeasuresFrom purpose area strings 0 at
-      measures_19 e =
-          measures_as (ap (tells 0) p.place ∙ sym (told_19 answer (sym p.number ∙ e)) ∙ ap told (called_needed h (length out)))
-
-      pub measures_told : (n ≡ 19 → ⊥) → MeasuresFrom purpose area strings n at
-      measures_told k =
-          measures_as (as_called ∙ sym (told_other answer (λ i. k (p.number ∙ i))) ∙ ap told (called_needed h (length out)))
+  pub length_told : (r : Result ℕ Refusal) → length_values r ≡ called_length purpose area strings
+      → MeasuresFrom purpose area strings (told_writing r).number (told_writing r).place
+  length_told r e = record { number = ap (λ (v : Values). (told v).number) e; place = ap (λ (v : Values). (told v).place) e }
 
   -- What is refused is refused alike.
   module _ (h : (told (called_length purpose area strings)).number ≡ 0 → ⊥) (room : ℕ) where

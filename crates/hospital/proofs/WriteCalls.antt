@@ -1,19 +1,19 @@
 -- What writing's answer says of a call.
 use Prim.Native.Nat.{ℕ, suc, ◌<◌}
-use mathlib.Core.Path.{◌≡◌, refl, sym, ap, subst, ◌∙◌}
+use mathlib.Core.Path.{◌≡◌, refl, sym, ap, ◌∙◌}
 use mathlib.Core.List.{List, [], ◌∷◌}
 use mathlib.Core.Bool.{Bool, true, false, false≢true}
 use lib.ListN.{length, get_or}
+use Rattle.std.specs.Prelude.{Result, Some, None}
 use borrow.Author.Tests.{eq-eqb, ne_eqb}
 use Rattle.json_grammar.proofs.Truth.{never_true}
 use Rattle.document.specs.Valid.{is_use}
 use Rattle.document.specs.Values.{Values, length_values}
 use Rattle.document.specs.Write.{Write, writes, refuses, readable, write, write_values, buffer_after}
 use Rattle.document.specs.declared.table.Table.{Table}
-use Rattle.document.specs.declared.table.Writing.{Writing}
+use Rattle.document.specs.declared.refusal.Refusal.{Refusal}
 use Rattle.table_words.specs.ByWords.{ByWords}
 use Rattle.c_answers.specs.Telling.{told, told_writing}
-use Rattle.c_answers.specs.declared.Told.{Told}
 use Rattle.c_area.specs.Area.{area_bytes, table_in, is_area}
 use Rattle.c_area_back.specs.declared.HeadPart.{HeadPart}
 use Rattle.c_area_back.specs.Fits.{AllBytes}
@@ -34,57 +34,55 @@ all_bytes_lem [] h = tt
 all_bytes_lem (b ∷ s) h = (h 0, all_bytes_lem s (λ i. h (suc i)))
 
 module _ (purpose : ℕ) (area strings out : List ℕ) where
-  pub other_size : (length area ≡ area_bytes → ⊥) → WritesFrom purpose area strings out 19 area_bytes out
+  abbrev called : Write
+  called = called_write purpose area strings (length out)
+
+  pub other_size : (length area ≡ area_bytes → ⊥) → called ≡ refuses 19 area_bytes
   unfolding called_write
-  other_size h = record { number = rw (ne_eqb _ _ h); place = rw (ne_eqb _ _ h); out_left = rw (ne_eqb _ _ h) }
+  other_size h = rw (ne_eqb _ _ h)
 
   module _ (h : length area ≡ area_bytes) where
-    pub no_use : is_use purpose ≡ false → WritesFrom purpose area strings out 17 0 out
+    pub no_use : is_use purpose ≡ false → called ≡ refuses 17 0
     unfolding called_write
-    no_use u = record { number = rw (eq-eqb _ _ h, u); place = rw (eq-eqb _ _ h, u); out_left = rw (eq-eqb _ _ h, u) }
+    no_use u = rw (eq-eqb _ _ h, u)
 
     module _ (u : is_use purpose ≡ true) where
-      unwritten_call : is_area area ≡ false → refuses 18 0 ≡ called_write purpose area strings (length out)
+      unwritten_call : is_area area ≡ false → called ≡ refuses 18 0
       unfolding called_write
       unwritten_call a = rw (eq-eqb _ _ h, u, a)
 
-      pub sized : is_area area ≡ true → write purpose (table_in area) strings (length out) ≡ called_write purpose area strings (length out)
+      pub sized : is_area area ≡ true → write purpose (table_in area) strings (length out) ≡ called
       unfolding called_write
       sized a = rw (eq-eqb _ _ h, u, a)
 
-      -- The head's part of the area decides, and then the words of its records.
-      module _ (r : HeadPart) (p : HeadIs area r) (known : (i : ℕ) → get_or area i 0 < 256) where
-        bytes : AllBytes area
-        bytes = all_bytes_lem area known
+      pub no_table : ((i : ℕ) → get_or area i 0 < 256) → HeadIs area None → called ≡ refuses 18 0
+      no_table known p = unwritten_call (sym (never_true (is_area area) (λ a. area_laid area (all_bytes_lem area known) a p)))
 
-        pub no_table : r.laid ≡ false → WritesFrom purpose area strings out 18 0 out
-        no_table l =
-            let none : is_area area ≡ false = sym (never_true (is_area area) (λ a. false≢true (sym l ∙ area_laid area r p bytes a))) in
-            let e = unwritten_call none in
-            record {
-              number = ap (λ (x : Write). (told (write_values x)).number) e;
-              place = ap (λ (x : Write). (told (write_values x)).place) e;
-              out_left = ap (λ (x : Write). buffer_after x out) e;
-            }
+-- The head's part of the area decides, and then the words of its records.
+module _ (purpose : ℕ) (area strings out : List ℕ) (h : length area ≡ area_bytes) (u : is_use purpose ≡ true) (known : (i : ℕ) → get_or area i 0 < 256)
+    (part : HeadPart) (p : HeadIs area (Some part)) {ws out' : List ℕ} {r : Result ℕ Refusal} (e : ws ≡ words_in area)
+    (f : WritesWords purpose part.head part.count part.text ws strings out r out') where
+  bytes : AllBytes area
+  bytes = all_bytes_lem area known
 
-        module _ {ws out' : List ℕ} {w : Writing} (l : r.laid ≡ true) (e : ws ≡ words_in area)
-            (f : WritesWords purpose r.head r.count r.text ws strings out w out') where
-          abbrev Answers : Write → Type 0
-          Answers x = (length_values w ≡ write_values x) × (out' ≡ buffer_after x out)
+  abbrev Answers : Write → Type 0
+  Answers x = (length_values r ≡ write_values x) × (out' ≡ buffer_after x out)
 
-          -- A readable table with these words would make the bytes an area.
-          no_readable : is_area area ≡ false → (t : Table) → ByWords t r.head r.count r.text ws → readable purpose t strings ≡ true → ⊥
-          no_readable a t k g = false≢true (sym a ∙ laid_is_area area r p bytes t (readable_fits purpose t strings g) l h (rw e at k))
+  -- A readable table with these words would make the bytes an area.
+  no_readable : is_area area ≡ false → (t : Table) → ByWords t part.head part.count part.text ws → readable purpose t strings ≡ true → ⊥
+  no_readable a t k g = false≢true (sym a ∙ laid_is_area area bytes part p t (readable_fits purpose t strings g) h (rw e at k))
 
-          answers : (a : Bool) → is_area area ≡ a → Answers (called_write purpose area strings (length out))
-          answers true a = let k = f.writes (table_in area) (rw e (area_by_words area r p bytes a)) in subst Answers (sized a) (k.answer, k.left)
-          answers false a = subst Answers (unwritten_call a) (rw u at (f.answer (no_readable a)), f.left (no_readable a))
+  answers : (a : Bool) → is_area area ≡ a → Answers (called_write purpose area strings (length out))
+  answers true a =
+      let k = f.writes (table_in area) (rw e (area_by_words area bytes a part p)) in
+      rw (← sized purpose area strings out h u a) (k.answer, k.left)
+  answers false a =
+      rw (unwritten_call purpose area strings out h u a) (rw u at (f.answer (no_readable a)), f.left (no_readable a))
 
-          pub answered : {made : Told} → made ≡ told_writing w → WritesFrom purpose area strings out made.number made.place out'
-          answered g =
-              let v = answers (is_area area) refl in
-              record {
-                number = ap (λ (t : Told). t.number) g ∙ ap (λ (v : Values). (told v).number) v.0;
-                place = ap (λ (t : Told). t.place) g ∙ ap (λ (v : Values). (told v).place) v.0;
-                out_left = v.1;
-              }
+  pub answered : Answers (called_write purpose area strings (length out))
+  answered = answers (is_area area) refl
+
+-- What is told of it.
+pub write_told : {purpose : ℕ} {area strings out out' : List ℕ} (r : Result ℕ Refusal) → length_values r ≡ write_values (called_write purpose area strings (length out))
+    → out' ≡ buffer_after (called_write purpose area strings (length out)) out → WritesFrom purpose area strings out (told_writing r).number (told_writing r).place out'
+write_told r e l = record { number = ap (λ (v : Values). (told v).number) e; place = ap (λ (v : Values). (told v).place) e; out_left = l }

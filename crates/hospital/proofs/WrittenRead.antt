@@ -8,6 +8,7 @@ use lib.Dec.{eqb, leb}
 use lib.ListN.{length, take, drop}
 use lib.Seq.{take_at}
 use Rattle.json_grammar.specs.Rows.{choose}
+use Rattle.json_grammar.proofs.Truth.{never}
 use Rattle.document.specs.Posology.{Posology}
 use Rattle.document.specs.Valid.{is_use, strings}
 use Rattle.document.specs.Plain.{plain}
@@ -32,9 +33,9 @@ module _ (purpose : ℕ) (area strings : List ℕ) (room : ℕ) (w : List ℕ) w
       go : (a u b : Bool) → choose a (λ _. choose u (λ _. choose b (λ _. write purpose (table_in area) strings room) λ _. refuses 18 0) λ _. refuses 17 0) (λ _. refuses 19 area_bytes) ≡ writes w
           → (b ≡ true) × (write purpose (table_in area) strings room ≡ writes w)
       go true true true e = (refl, e)
-      go true true false e = let z : ◌≡◌ {A = ℕ} 0 1 = cc in absurd (omega arith)
-      go true false b e = let z : ◌≡◌ {A = ℕ} 0 1 = cc in absurd (omega arith)
-      go false u b e = let z : ◌≡◌ {A = ℕ} 0 1 = cc in absurd (omega arith)
+      go true true false e = never (cc)
+      go true false b e = never (cc)
+      go false u b e = never (cc)
 
 -- Read into another area and other strings, which hold them.
 pub record AreaBack (purpose : ℕ) (area strings₀ w strings₁ area₁ : List ℕ) : Type 0 where

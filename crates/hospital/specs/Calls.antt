@@ -66,13 +66,6 @@ module _ (purpose : ℕ) (run strings area : List ℕ) where
     pub strings_left : strings' ≡ next_buffer_after next_call strings
     pub area_left : area' ≡ next_area_after next_call area
 
--- Only what was taken is laid.
-abbrev pub laid_next : Values → List ℕ → List ℕ → List ℕ
-laid_next accepted laid area = laid
-laid_next (ends e) laid area = laid
-laid_next (blanks_only n) laid area = area
-laid_next (number n place) laid area = area
-
 -- "Writer: 17, 18, 19", and "bytes that lay out no table are 18"
 unfoldable pub called_write : ℕ → List ℕ → List ℕ → ℕ → Write
 called_write purpose area strings room =

@@ -1,17 +1,28 @@
-// What was read, laid into the lent area without a table between them.
-ghost use Rattle.std.specs.Prelude.{◌≡◌, cond, eqb, length};
-ghost use Rattle.posology.specs.Next.{next_words_values, next_words_table};
-ghost use Rattle.hospital.specs.Calls.{laid_next};
+// The lent area: its size, and what was read laid into it without a table between them.
+ghost use Rattle.std.specs.Prelude.{◌≡◌, ◌≢◌, length, IfOk, IfErr};
+ghost use Rattle.document.specs.Refusals.{refusal};
+ghost use Rattle.document.specs.declared.refusal.Reason.TheVariants.{BufferTooShort};
 ghost use Rattle.c_area.specs.Area.{area_of, area_bytes};
 ghost use Rattle.read_table.specs.Built.{built};
 
-use document::refusal::Refusal;
+use document::refusal::{Reason, Refusal};
 use document::table::WORDS;
-use posology::NextWords;
 use read_records::read::HeadRead;
 
+// "An area of another size is 19 with that size as the place, before all else"
+pub(crate) fn sized(table: &[u8]) -> Result<(), Refusal>
+    ensures right { IfOk result λ _. length table.now ≡ area_bytes }
+    ensures other { IfErr result λ r. (length table.now ≢ area_bytes) × (r ≡ refusal BufferTooShort area_bytes) }
+{
+    if table.len() != c_area::AREA {
+        return Err(Refusal(Reason::BufferTooShort, c_area::AREA));
+    }
+    Ok(())
+}
+
 pub(crate) fn lay_read(h: HeadRead, rows: &mut [u64; WORDS], table: &mut [u8])
-    ensures { table.new ≡ cond (eqb (length table.old) area_bytes) (area_of (built h rows.old)) table.old }
+    requires { length table.old ≡ area_bytes }
+    ensures { table.new ≡ area_of (built h rows.old) }
 {
     let count = h.used.records;
     table_words::tidy(rows, count);
@@ -22,15 +33,4 @@ pub(crate) fn lay_read(h: HeadRead, rows: &mut [u64; WORDS], table: &mut [u8])
         rows,
         table,
     );
-}
-
-// Only a posology that was taken is laid.
-pub(crate) fn lay_next(r: Result<NextWords, Refusal>, rows: &mut [u64; WORDS], table: &mut [u8])
-    ensures { table.new ≡ laid_next (next_words_values r) (cond (eqb (length table.old) area_bytes) (area_of (next_words_table r rows.old)) table.old) table.old }
-{
-    match r {
-        Ok(NextWords::Taken { end: _, head }) => lay_read(head, rows, table),
-        Ok(NextWords::Blank { length: _ }) => {}
-        Err(_) => {}
-    }
 }

@@ -1,9 +1,11 @@
 // The shelf in a lent area (document 02, Wish 2).
+ghost use Rattle.c_answers.specs.Telling.{told_writing};
 ghost use Rattle.hospital.specs.ShelfCalls.{PutsInto, FetchesInto, RemovesFrom, StandsAt};
 
-use crate::reading::posology_read;
-use crate::telling::{refuse, tell};
-use document::refusal::Reason;
+use crate::laying::sized;
+use crate::reading::read_into;
+use crate::telling::tell;
+use document::refusal::Refusal;
 use shelf::BOTH_USES;
 
 #[unsafe(no_mangle)]
@@ -16,10 +18,25 @@ pub extern "C" fn posology_shelf_put(
 ) -> u64
     ensures { PutsInto number purpose text.now area.old result place.new area.new }
 {
-    tell(c_answers::told_writing(shelf::put(area, number, text, purpose)), place)
+    let put = shelf::put(area, number, text, purpose);
+    tell(c_answers::told_writing(put), place)
 }
 
 // The plain text under a number, read where it stands.
+#[tactic(auto, using(shelf::proofs::FoundTexts::found_inside))]
+fn fetch_into(
+    area: &[u8],
+    number: u64,
+    strings: &mut [u8],
+    table: &mut [u8],
+) -> Result<usize, Refusal>
+    ensures { FetchesInto number area.now strings.old table.old (told_writing result).number (told_writing result).place strings.new table.new }
+{
+    sized(table)?;
+    let found = shelf::find(area, number)?;
+    read_into(&area[found.from..found.to], BOTH_USES, strings, table)
+}
+
 #[unsafe(no_mangle)]
 pub extern "C" fn posology_shelf_fetch(
     area: &[u8],
@@ -31,16 +48,8 @@ pub extern "C" fn posology_shelf_fetch(
     ensures { FetchesInto number area.now strings.old table.old result
         place.new strings.new table.new }
 {
-    if table.len() != c_area::AREA {
-        return refuse(Reason::BufferTooShort, c_area::AREA, place);
-    }
-    match shelf::find(area, number) {
-        Ok(found) => {
-            let text = &area[found.from..found.to];
-            posology_read(text, BOTH_USES, strings, table, place)
-        }
-        Err(why) => tell(c_answers::told_refusal(why), place),
-    }
+    let fetched = fetch_into(area, number, strings, table);
+    tell(c_answers::told_writing(fetched), place)
 }
 
 #[unsafe(no_mangle)]
@@ -49,7 +58,7 @@ pub extern "C" fn posology_shelf_remove(area: &mut [u8], number: u64) -> u64
 {
     match shelf::remove(area, number) {
         Ok(()) => 0,
-        Err(why) => why.0.number() as u64,
+        Err(why) => u64::from(why.0.number()),
     }
 }
 
@@ -64,7 +73,7 @@ pub extern "C" fn posology_shelf_at(area: &[u8], position: u64, number: &mut u64
         }
         Err(why) => {
             *number = 0;
-            why.0.number() as u64
+            u64::from(why.0.number())
         }
     }
 }
