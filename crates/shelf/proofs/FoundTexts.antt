@@ -1,28 +1,25 @@
 -- Where the plain text under a number stands, and that reading it is fetching.
 use mathlib.Core.Path.{◌≡◌, refl, ap, sym, ◌∙◌}
 use mathlib.Core.List.{List, ◌∷◌, ◌++◌}
-use mathlib.Core.Bool.{Bool, true, false, cond}
-use mathlib.Core.Option.{Option, none, some}
-use mathlib.Core.Logic.{◌⊎◌, inl, inr}
+use mathlib.Core.Bool.{Bool, true}
+use mathlib.Core.Option.{Option}
 use Prim.Native.Nat.{ℕ, ◌+◌, ◌-◌, ◌≤◌}
 use native.Mathlib.Omega.{arith}
 use lib.ListN.{length, take, drop}
 use lib.Seq.{take_at, drop-drop}
 use Rattle.json_grammar.specs.Rows.{choose}
-use Rattle.json_grammar.proofs.Truth.{cond_true, cond_false, never}
+use Rattle.json_grammar.proofs.Truth.{never}
 use Rattle.document.specs.Posology.{Posology}
 use Rattle.document.specs.Plain.{plain}
 use Rattle.document.specs.Answer as R
 use Rattle.document.specs.Answer.{Read, read, read_values, table_after, buffer_after, Reads, in_room}
 use Rattle.document.specs.Table.{empty_table}
 use Rattle.document.specs.declared.table.Reading.{Reading}
-use Rattle.shelf_list.specs.Shelf.{Entry, entry, both_uses, is_number, size, used, record_then, stands, good_entry, Holds, entries_in}
+use Rattle.shelf_list.specs.Shelf.{Entry, entry, both_uses, used, record_then, good_entry}
 use Rattle.shelf_list.specs.Calls.{under, fetch_under, fetch_in, fetched_from}
-use Rattle.shelf_list.proofs.Areas.{area_of_list, holds_back}
+use Rattle.shelf_list.proofs.Areas.{holds_back}
 use Rattle.shelf_list.proofs.Edits.{it_good, it, behind}
 use Rattle.shelf_list.proofs.Lists.{used_both}
-use Rattle.shelf_list.proofs.Records.{good_once}
-use Rattle.shelf_list.proofs.Stored.{stands_there}
 use Rattle.shelf_list.proofs.Under.{under_none}
 use Rattle.std.specs.Prelude.{Result, Ok, Err}
 use Rattle.document.specs.Refusals.{number_of, refusal}

@@ -1,7 +1,7 @@
 -- What one record more changes in what is told of the records passed.
 use mathlib.Core.Path.{◌≡◌, refl, ap, sym, ◌∙◌}
 use mathlib.Core.List.{List, [], ◌∷◌, ◌++◌}
-use mathlib.Core.Bool.{Bool, true, false, cond, ◌||◌}
+use mathlib.Core.Bool.{Bool, true, false, cond}
 use Prim.Native.Nat.{ℕ, zero, suc, ◌+◌}
 use native.Mathlib.Omega.{arith}
 use lib.Dec.{eqb, eqb-suc-suc}
@@ -10,7 +10,7 @@ use borrow.Author.Tests.{ne_eqb, eqb-true}
 use Rattle.document.proofs.Same.{eqb_sym}
 use Rattle.shelf_list.specs.Shelf.{Entry, size, used, stands}
 use Rattle.shelf_list.specs.Calls.{number_standing}
-use Rattle.shelf_list.proofs.Lists.{or_false, used_append, stands_last}
+use Rattle.shelf_list.proofs.Lists.{or_false, used_append}
 use Rattle.std.specs.Prelude.{Some, None}
 use Rattle.json_grammar.proofs.Truth.{cond_false}
 use Rattle.shelf.specs.Survey.{place, place_from, survey_of, with_record}

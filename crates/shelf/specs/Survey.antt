@@ -1,5 +1,5 @@
 -- What going over an area once tells of it.
-use Rattle.std.specs.Prelude.{◌≡◌, List, [], ◌∷◌, Bool, true, false, cond, ◌&&◌, ℕ, ◌+◌, eqb, length, take, drop, Option as Maybe, Some, None, ok_or, Result, Ok, Err}
+use Rattle.std.specs.Prelude.{◌≡◌, List, [], ◌∷◌, Bool, true, cond, ◌&&◌, ℕ, ◌+◌, eqb, length, take, drop, Option as Maybe, Some, None, ok_or, Result, Ok, Err}
 use Rattle.std.proofs.Math.Option.{Option, none, some}
 use Rattle.shelf_list.specs.Shelf.{Entry, is_number, size, used, is_plain, number_at, begins, entries_in}
 use Rattle.shelf_list.specs.Calls.{number_standing}

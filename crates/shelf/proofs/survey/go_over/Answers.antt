@@ -1,7 +1,6 @@
 use mathlib.Core.Path.{sym, ◌∙◌}
-use native.Mathlib.Omega.{arith}
 use Rattle.shelf_bytes.proofs.HeadLaws.{number_in}
-use Rattle.shelf.proofs.Turns.{too_long, going_starts, at_end_lem, at_zero, no_record, passes_inside, still_small, going_on}
+use Rattle.shelf.proofs.Turns.{too_long, going_starts, at_end_lem, at_zero, no_record, still_small, going_on}
 use Rattle.shelf.proofs.survey.go_over.Goals as goal
 
 pub returns-then-area-gt-AREA : goal.returns-then-area-gt-AREA
