@@ -73,7 +73,7 @@ impl Brackets {
     }
 
     // Without the innermost.
-    pub fn closed(self) -> Brackets
+    pub(crate) fn closed(self) -> Brackets
         requires { 0 < self.depth }
         ensures { (result.depth ≡ self.depth - 1) × (result.kinds ≡ self.kinds / 2) }
     {

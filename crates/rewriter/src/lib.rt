@@ -7,11 +7,7 @@ use document::refusal::Refusal;
 use document::table::{LONGEST_PLAIN, TEXT_ROOM, WORDS};
 
 // What is read is valid and fits, so that neither 18 nor 19 can come of writing it.
-pub fn rewrite(
-    text: &[u8],
-    purpose: u64,
-    out: &mut [u8; LONGEST_PLAIN],
-) -> Result<usize, Refusal>
+pub fn rewrite(text: &[u8], purpose: u64, out: &mut [u8; LONGEST_PLAIN]) -> Result<usize, Refusal>
     ensures { Rewrites purpose text.now out.old result out.new }
 {
     let mut strings = [0u8; TEXT_ROOM];

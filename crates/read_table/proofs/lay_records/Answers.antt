@@ -14,10 +14,10 @@ loop-i-init c =
 
 pub loop-i-preserved : goal.loop-i-preserved
 loop-i-preserved c =
-  elim c.if-words-at-eq2.branch [
-    | then-words-at-eq2 w ↦ turn_lays c.args.text.now c.args.words.now c.args.strings.now c.loop-i.i _ c.if-words-at-eq2.strings c.loop-i.invariant w.if-words-at-eq2.true (w.strings-is ∙ w.lay.ensures.buffer_after)
-    | else-words-at-eq2 w ↦ turn_passes c.args.text.now c.args.words.now c.args.strings.now c.loop-i.i _ c.if-words-at-eq2.strings c.loop-i.invariant w.if-words-at-eq2.false w.strings-is
-  ]
+    elim c.if-words-at-eq2.branch [
+      | then-words-at-eq2 w ↦ turn_lays c.args.text.now c.args.words.now c.args.strings.now c.loop-i.i _ c.if-words-at-eq2.strings c.loop-i.invariant w.if-words-at-eq2.true (w.strings-is ∙ w.lay.ensures.buffer_after)
+      | else-words-at-eq2 w ↦ turn_passes c.args.text.now c.args.words.now c.args.strings.now c.loop-i.i _ c.if-words-at-eq2.strings c.loop-i.invariant w.if-words-at-eq2.false w.strings-is
+    ]
 
 pub shape_of-strings : goal.shape_of-strings
 shape_of-strings c =

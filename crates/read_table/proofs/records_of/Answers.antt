@@ -19,8 +19,8 @@ loop-i-init c =
 
 pub loop-i-preserved : goal.loop-i-preserved
 loop-i-preserved c =
-  ap (λ (rs : List Record). set rs c.loop-i.i c.record_at.result) c.loop-i.invariant
-      ∙ groups_set width record_in 64 c.loop-i.i c.args.words.now no_record c.record_at.result (omega arith) (c.record_at.ensures ∙ record_inside c.args.words.now (c.loop-i.i * width) (omega arith))
+    ap (λ (rs : List Record). set rs c.loop-i.i c.record_at.result) c.loop-i.invariant
+    ∙ groups_set width record_in 64 c.loop-i.i c.args.words.now no_record c.record_at.result (omega arith) (c.record_at.ensures ∙ record_inside c.args.words.now (c.loop-i.i * width) (omega arith))
 
 pub returns : goal.returns
 returns c =
