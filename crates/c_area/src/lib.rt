@@ -83,7 +83,6 @@ pub fn lay_words(head: Head, count: usize, text: usize, words: &[u64; WORDS], ar
     lay_numbers(words, area, HEAD * 8);
 }
 
-#[tactic(auto, unfolding(crate::specs::Area::area_of))]
 pub fn lay(table: Table, area: &mut [u8])
     ensures { area.new ≡ cond (eqb (length area.old) area_bytes) (area_of table) area.old }
 {
