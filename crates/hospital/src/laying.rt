@@ -20,16 +20,16 @@ pub(crate) fn sized(table: &[u8]) -> Result<(), Refusal>
     Ok(())
 }
 
-pub(crate) fn lay_read(h: HeadRead, rows: &mut [u64; WORDS], table: &mut [u8])
+pub(crate) fn lay_read(head: HeadRead, rows: &mut [u64; WORDS], table: &mut [u8])
     requires { length table.old ≡ area_bytes }
-    ensures { table.new ≡ area_of (built h rows.old) }
+    ensures { table.new ≡ area_of (built head rows.old) }
 {
-    let count = h.used.records;
+    let count = head.used.records;
     table_words::tidy(rows, count);
     c_area::lay_words(
-        read_table::head_of(h),
+        read_table::head_of(head),
         table_kinds::at_most(count),
-        h.used.text,
+        head.used.text,
         rows,
         table,
     );

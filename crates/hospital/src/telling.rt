@@ -1,4 +1,4 @@
-// What is told of an answer: the place is stored, and the number returned.
+// What is told of an answer. C interface: the place is stored, and the number returned.
 ghost use Rattle.std.specs.Prelude.{◌≡◌};
 
 use c_answers::Told;

@@ -6,4 +6,4 @@ use Rattle.hospital.proofs.laying.lay_read.Goals as goal
 
 pub returns : goal.returns
 returns c =
-    c.lay_words.ensures ∙ rw (eq-eqb _ _ c.requires) (read_laid c.args.h c.args.rows.now c.tidy.ensures c.head_of.ensures c.at_most.ensures)
+    c.lay_words.ensures ∙ rw (eq-eqb _ _ c.requires) (read_laid c.args.head c.args.rows.now c.tidy.ensures c.head_of.ensures c.at_most.ensures)
