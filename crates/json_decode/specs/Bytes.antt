@@ -19,4 +19,4 @@ abbrev pub YieldsPiece : Pieces → Option Piece → Pieces → Type 0
 YieldsPiece p r q = MatchOption r ((ahead p ≡ []) × (ahead q ≡ [])) (λ x. (ahead p ≡ bytes_of x ++ ahead q) × (0 < length (bytes_of x)))
 
 abbrev pub bytes_ahead : Cursor → List ℕ
-bytes_ahead c = drop c.given (bytes_of c.piece) ++ ahead c.behind
+bytes_ahead c = drop c.given c.out ++ left c.text.now c.spot

@@ -1,3 +1,4 @@
+pub mod Padded
 pub mod Characters
 pub mod Bytes
 pub mod Examples

@@ -6,14 +6,15 @@ ghost use Rattle.std.specs.Iterator.{YieldsFirst, item_count};
 ghost use Rattle.json_decode.specs.Characters.{plain_from};
 ghost use Rattle.json_decode.specs.Bytes.{bytes_ahead};
 
-use crate::{Out, Piece, Pieces};
+use crate::{Out, Spot};
 
-// A piece, of which so many bytes are given out, and the pieces behind it.
-#[derive(Drop)]
+// Bytes that were decoded, of which so many are given out, and the spot behind them. It looks for no run: two names mostly differ in their first bytes.
+#[derive(Clone, Copy)]
 pub struct Cursor<'a> {
-    piece: Piece<'a>,
+    text: &'a [u8],
+    spot: Spot,
+    out: Out,
     given: usize,
-    behind: Pieces<'a>,
 }
 
 impl<'a> Iterator for Cursor<'a> {
@@ -24,13 +25,15 @@ impl<'a> Iterator for Cursor<'a> {
     ghost remaining = { item_count bytes_ahead };
 
     fn next(&mut self) -> Option<u8> {
-        if let Some(&byte) = self.piece.as_slice().get(self.given) {
+        if let Some(&byte) = self.out.as_slice().get(self.given) {
             self.given += 1;
             return Some(byte);
         }
-        self.piece = self.behind.next()?;
+        let next = crate::next_bytes(self.text, self.spot)?;
+        self.spot = next.spot;
+        self.out = next.out;
         self.given = 1;
-        Some(self.piece.as_slice()[0])
+        Some(next.out.as_slice()[0])
     }
 }
 
@@ -39,8 +42,9 @@ pub fn plain_at(text: &[u8], at: usize) -> Cursor<'_>
     ensures { bytes_ahead result ≡ plain_from text.now at }
 {
     Cursor {
-        piece: Piece::Decoded(Out::none()),
+        text,
+        spot: crate::spot_at(at),
+        out: Out::none(),
         given: 0,
-        behind: Pieces::plain_at(text, at),
     }
 }

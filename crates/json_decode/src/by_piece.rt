@@ -1,14 +1,14 @@
 // A string's bytes, as many at once as stand together in the text or are decoded together.
 #![tactic(auto)]
 
-ghost use Rattle.std.specs.Prelude.{◌≡◌, true, []};
+ghost use Rattle.std.specs.Prelude.{◌≡◌, true, [], length};
 ghost use Rattle.json_decode.specs.Characters.{plain_from, Run};
 
 use crate::{Out, Spot};
 use json_grammar::string::InString;
 use json_scan::escape;
 
-#[derive(Drop)]
+#[derive(Clone, Copy)]
 pub enum Piece<'a> {
     Spelled(&'a [u8]), // a run of the text's own bytes
     Decoded(Out),
@@ -23,6 +23,17 @@ impl<'a> Piece<'a> {
         match self {
             Piece::Spelled(bytes) => bytes,
             Piece::Decoded(out) => out.as_slice(),
+        }
+    }
+
+    // How many they are: to be counted, they need not be laid out.
+    #[inline(always)]
+    pub fn len(&self) -> usize
+        ensures { result ≡ length (bytes_of self.now) }
+    {
+        match self {
+            Piece::Spelled(bytes) => bytes.len(),
+            Piece::Decoded(out) => out.len(),
         }
     }
 }
@@ -91,16 +102,16 @@ impl<'a> Iterator for Pieces<'a> {
         let text = self.text;
         let start = self.spot.at;
         if start < self.end {
-            let end = self.end;
-            self.spot = crate::behind_run(self.spot, end);
-            return Some(Piece::Spelled(&text[start..end]));
+            self.spot.at = self.end;
+            return Some(Piece::Spelled(&text[start..self.end]));
         }
         if let InString::Plain = self.spot.state {
             if closes_at(text, start) {
                 return None;
             }
             if let Some(escape) = escape::escape_at(text, start) {
-                *self = Pieces::from_spot(text, crate::spot_at(start + escape.width()));
+                self.spot.at = start + escape.width();
+                self.end = crate::plain_end(text, self.spot.at);
                 return Some(Piece::Decoded(crate::escaped(escape)));
             }
         }

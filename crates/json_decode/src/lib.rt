@@ -15,7 +15,7 @@ pub use by_byte::{Cursor, plain_at};
 pub use by_piece::{Piece, Pieces};
 use json_grammar::string::{CharStep, InString, Letter};
 use json_scan::escape::Escape;
-use json_scan::{byte, string};
+use json_scan::{byte, escape, string};
 pub use up_to_four::Out;
 
 // A place inside a string, with what may stand there, and the digits gathered of an escape.
@@ -27,10 +27,10 @@ pub struct Spot {
 }
 
 // Bytes that were decoded, and the spot behind them.
-#[derive(Drop)]
-struct NextBytes {
-    out: Out,
-    spot: Spot,
+#[derive(Clone, Copy)]
+pub struct NextBytes {
+    pub out: Out,
+    pub spot: Spot,
 }
 
 // Seven digits are kept of v, so that no product wraps.
@@ -153,13 +153,17 @@ fn step(text: &[u8], s: Spot) -> Option<NextBytes>
 }
 
 // The first place from `at` on where no character stands that is spelled as it is.
+#[inline]
 pub fn plain_end(text: &[u8], at: usize) -> usize
     ensures { Run text.now (spot_at at) result }
 {
     let mut i = at;
     while i < text.len() {
-        if string::is_ascii(text[i]) {
+        let b = text[i];
+        if string::is_ascii(b) {
             i += 1;
+        } else if b < 0x80 {
+            return i;
         } else {
             match string::wide_char(text, i) {
                 Some(n) => i += n,
@@ -173,7 +177,7 @@ pub fn plain_end(text: &[u8], at: usize) -> usize
 // The place up to which the decoded bytes from a spot on are those of the text.
 #[tactic(auto, using(crate::proofs::Runs::run_none, crate::proofs::Runs::run_at))]
 #[inline(always)]
-fn run_end(text: &[u8], s: Spot) -> usize
+pub fn run_end(text: &[u8], s: Spot) -> usize
     ensures { Run text.now s result }
 {
     match s.state {
@@ -183,7 +187,7 @@ fn run_end(text: &[u8], s: Spot) -> usize
 }
 
 // The spot behind a run.
-fn behind_run(s: Spot, at: usize) -> Spot
+pub fn behind_run(s: Spot, at: usize) -> Spot
     ensures { result ≡ behind_run s at }
 {
     Spot { at, ..s }
@@ -203,6 +207,21 @@ fn stepped_bytes(text: &[u8], s: Spot) -> Option<NextBytes>
         }
         spot = next.spot;
     }
+}
+
+// The next decoded bytes of a string, a whole escape's or else byte by byte; none where it ends.
+pub fn next_bytes(text: &[u8], s: Spot) -> Option<NextBytes>
+    ensures { MatchOption result (left text.now s ≡ []) (GivesBytes text.now s) }
+{
+    if let InString::Plain = s.state {
+        if let Some(escape) = escape::escape_at(text, s.at) {
+            return Some(NextBytes {
+                out: escaped(escape),
+                spot: spot_at(s.at + escape.width()),
+            });
+        }
+    }
+    stepped_bytes(text, s)
 }
 
 // The place behind the opening quote at `quote`.

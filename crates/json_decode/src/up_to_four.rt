@@ -1,21 +1,29 @@
 // Up to four bytes.
-ghost use Rattle.std.specs.Prelude.{◌≡◌, ◌≤◌, ℕ, List, [], ◌∷◌, take};
+ghost use Rattle.std.specs.Prelude.{◌≡◌, [], ◌∷◌, length};
 
 use std::marker::Model;
 
-// The first n of the array.
-#[derive(Drop)]
+// The first n of the array; those behind them are zeros, so that the bytes give the fields back.
+#[derive(Clone, Copy)]
 pub struct Out {
     n: usize,
     bytes: [u8; 4],
 }
 
 impl Model for Out {
+    ghost use Rattle.std.specs.Prelude.{◌≡◌, ◌≤◌, ℕ, List, take};
+
     ghost Value = { List ℕ };
+
+    ghost use Rattle.json_decode.specs.Padded.{of_bytes};
 
     ghost view = { λ o. take o.n o.bytes };
 
-    ghost invariant = { λ o. o.n ≤ 4 };
+    ghost inverse = { of_bytes };
+
+    ghost invariant = { λ o. (o.n ≤ 4) × (of_bytes (take o.n o.bytes) ≡ o) };
+
+    ghost inverse_ok = { λ o h. h.1 };
 }
 
 impl Out {
@@ -59,6 +67,12 @@ impl Out {
         ensures { result ≡ bytes }
     {
         Out { n: 4, bytes }
+    }
+
+    pub fn len(&self) -> usize
+        ensures { result ≡ length self.now }
+    {
+        self.n
     }
 
     pub fn as_slice(&self) -> &[u8]

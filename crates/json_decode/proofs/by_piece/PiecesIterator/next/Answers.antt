@@ -1,23 +1,29 @@
 -- A run, the closing quote, an escape or what is decoded byte by byte.
-use Prim.Native.Nat.{ℕ}
+use Prim.Native.Nat.{ℕ, ◌+◌}
 use mathlib.Core.Path.{ap, ◌∙◌}
 use native.Mathlib.Omega.{arith}
 use lib.ListN.{length, length-append}
-use Rattle.json_decode.proofs.Runs.{left_any, run_piece, escape_piece}
+use Rattle.json_decode.proofs.Runs.{left_any, run_at, run_piece, escape_piece}
 use Rattle.json_decode.proofs.by_piece.PiecesIterator.next.Goals as goal
 
 pub returns-then-start-self-clause-steps : goal.returns-then-start-self-clause-steps
 returns-then-start-self-clause-steps c =
-    rw c.behind_run-self.ensures (run_piece c.args.self.now.run c.if-start-self.true)
+    run_piece c.args.self.now.run c.if-start-self.true
 
 pub returns-then-closes_at-clause-steps : goal.returns-then-closes_at-clause-steps
 returns-then-closes_at-clause-steps c =
     let e = left_any c.args.self.now.text.now c.args.self.now.spot c.in-Plain.is ∙ c.closes_at.ensures c.if-closes_at.true in (e, e)
 
+pub invariant_of-self-in-Some : goal.invariant_of-self-in-Some
+invariant_of-self-in-Some c =
+    let s = c.args.self.now.spot in
+    record { run = run_at (record { at = s.at + c.width.result; state = s.state; v = s.v }) c.in-Plain.is c.plain_end-self.ensures }
+
 pub returns-in-Some-clause-steps : goal.returns-in-Some-clause-steps
 returns-in-Some-clause-steps c =
-    escape_piece _ c.args.self.now.spot c.in-Some.escape _ _ _ c.in-Plain.is c.in-Some.ensures c.width.ensures c.escaped.ensures
-    (c.from_spot.ensures ∙ c.spot_at.ensures _)
+    let s = c.args.self.now.spot in
+    let behind = left_any c.args.self.now.text.now (record { at = s.at + c.width.result; state = s.state; v = s.v }) c.in-Plain.is in
+    escape_piece _ s c.in-Some.escape _ _ _ c.in-Plain.is c.in-Some.ensures c.width.ensures c.escaped.ensures behind
 
 pub returns-in-Some-clause-goes : goal.returns-in-Some-clause-goes
 returns-in-Some-clause-goes c =
