@@ -7,7 +7,7 @@ ghost use Rattle.json_move.specs.Read.{decoded};
 ghost use Rattle.json_decode.specs.Bytes.{ahead};
 ghost use Rattle.json_lay.specs.Strings.{laid, buffered};
 
-use json_decode::Pieces;
+use json_decode::{Piece, Pieces};
 
 fn length_of(pieces: Pieces<'_>) -> usize
     requires { length (ahead pieces) < 0x10000000000000000 }
@@ -15,7 +15,7 @@ fn length_of(pieces: Pieces<'_>) -> usize
 {
     let mut n = 0;
     for piece in pieces {
-        n += piece.as_slice().len();
+        n += piece.len();
     }
     n
 }
@@ -28,6 +28,19 @@ pub fn decoded_length(text: &[u8], quote: usize) -> usize
     length_of(Pieces::of(text, quote))
 }
 
+// Lays some bytes into the buffer from `to` on, one by one: the place behind them.
+#[inline(always)]
+fn put(bytes: &[u8], buffer: &mut [u8], to: usize) -> usize
+    requires { to + length bytes.now ≤ length buffer.old }
+    ensures value { result ≡ to + length bytes.now }
+    ensures buffer_after { buffer.new ≡ sets buffer.old to bytes.now }
+{
+    for i in 0..bytes.len() {
+        buffer[to + i] = bytes[i];
+    }
+    to + bytes.len()
+}
+
 // Lays the bytes into the buffer from `to` on, which has room for them: the place behind them.
 fn copy(pieces: Pieces<'_>, buffer: &mut [u8], to: usize) -> usize
     requires { to + length (ahead pieces) ≤ length buffer.old }
@@ -36,10 +49,10 @@ fn copy(pieces: Pieces<'_>, buffer: &mut [u8], to: usize) -> usize
 {
     let mut k = to;
     for piece in pieces {
-        let bytes = piece.as_slice();
-        let end = k + bytes.len();
-        buffer[k..end].copy_from_slice(bytes);
-        k = end;
+        k = match piece {
+            Piece::Spelled(run) => put(run, buffer, k),
+            Piece::Decoded(out) => put(out.as_slice(), buffer, k),
+        };
     }
     k
 }
