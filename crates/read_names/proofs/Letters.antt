@@ -29,6 +29,9 @@ module _ (took : List ℕ → Type 0) {bytes rest : List ℕ} where
       let w : a.done ≡ bytes = sym (append-nil a.done) ∙ rw e at a.whole in
       subst took w a.takes
 
+  pub ahead_full : Ahead took bytes rest → ((before more : List ℕ) → took before → took (before ++ more)) → took bytes
+  ahead_full a f = subst took a.whole (f a.done rest a.takes)
+
   pub ahead_more : (next : List ℕ → Type 0) {s : List ℕ} (more : List ℕ) → Ahead took bytes rest → rest ≡ more ++ s → ((done : List ℕ) → took done → next (done ++ more)) → Ahead next bytes s
   ahead_more next {s} more a e f =
       record {

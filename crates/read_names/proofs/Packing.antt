@@ -112,6 +112,18 @@ module _ (p : Packed) (b : ℕ) (small : b < 256) (name : List ℕ) (k : Packs n
         small = bytes_one 14 name b k.small small;
       }
 
+-- Fifteen letters stand for any number of them, and nothing is told of those behind the first fourteen.
+pub letters_full : (name more : List ℕ) (p : Packed) → Packs name p → p.letters ≡ 15 → Packs (name ++ more) p
+unfolding head_of
+letters_full name more p k h =
+    let far : 14 < length name = omega (arith, k.letters) in
+    record {
+      head = k.head ∙ rw (take-append-le 7 name more (omega arith));
+      tail = k.tail ∙ tail_over name far ∙ sym (tail_over (name ++ more) (omega (arith, length-append name more)));
+      letters = omega (arith, k.letters, length-append name more);
+      small = rw (take-append-le 14 name more (omega arith)) k.small;
+    }
+
 -- ---- apart: the same numbers are of the same bytes. From the last byte on:
 packed : List ℕ → ℕ
 packed [] = 1

@@ -55,4 +55,9 @@ impl Takes for Packed {
             letters: 15,
         }
     }
+
+    // Of letters behind the fourteenth only that there are some is told.
+    fn is_full(self) -> bool {
+        self.letters == 15
+    }
 }

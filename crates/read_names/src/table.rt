@@ -39,6 +39,10 @@ impl Takes for Hash {
             hash: (high + low + self.seed / 0x100000000) % 0x100000000 * 0x100000000 + low,
         }
     }
+
+    fn is_full(self) -> bool {
+        false
+    }
 }
 
 impl Hash {

@@ -1,5 +1,5 @@
 // The bytes of a name, taken one after the other into what is told of them.
-ghost use Rattle.std.specs.Prelude.{ℕ, List, [], ◌∷◌, ◌++◌, drop, IfSome};
+ghost use Rattle.std.specs.Prelude.{◌≡◌, ℕ, List, [], ◌∷◌, ◌++◌, true, drop, IfSome};
 ghost use Rattle.json_grammar.specs.Tree.{Moves};
 ghost use Rattle.json_move.specs.Moving.{behind_colon, value_of};
 ghost use Rattle.json_move.specs.Read.{decoded};
@@ -14,6 +14,10 @@ pub(crate) trait Takes: Copy {
     fn with(self, b: u8) -> Self
         ensures { (start : Self) (bytes : List ℕ) → took start bytes self → took start (bytes ++ b ∷ []) result };
 
+    // Whether it stays as it is, whatever bytes follow.
+    fn is_full(self) -> bool
+        ensures { result ≡ true → (start : Self) (bytes more : List ℕ) → took start bytes self → took start (bytes ++ more) self };
+
     ghost took_none: { (start : Self) → took start [] start };
 }
 
@@ -22,6 +26,9 @@ pub(crate) fn all<T: Takes>(taken: T, bytes: &[u8]) -> T
 {
     let mut t = taken;
     for b in bytes {
+        if t.is_full() {
+            return t;
+        }
         t = t.with(*b);
     }
     t
@@ -48,13 +55,16 @@ pub(crate) fn plain<T: Takes>(start: T, text: &[u8], quote: usize) -> Option<(T,
     None
 }
 
-// Of any name, as it is decoded.
+// Of any name, as it is decoded, and no further than it takes.
 pub(crate) fn decoded<T: Takes>(start: T, text: &[u8], quote: usize) -> T
     ensures { T.took start (decoded (drop quote text.now)) result }
 {
     let mut t = start;
     for piece in Pieces::of(text, quote) {
         t = all(t, piece.as_slice());
+        if t.is_full() {
+            return t;
+        }
     }
     t
 }
