@@ -11,7 +11,8 @@ pub struct Slots {
 }
 
 impl Slots {
-    pub(crate) fn none() -> Slots
+    // Of no name.
+    pub fn none() -> Slots
         ensures { result.places ≡ replicate 33 0 }
     {
         Slots { places: [0; NAMES] }
@@ -26,7 +27,8 @@ impl Slots {
         }
     }
 
-    pub(crate) fn put(&mut self, name: Name, place: usize)
+    // Of a name whose value stands at `place`, or nowhere where that is 0.
+    pub fn put(&mut self, name: Name, place: usize)
         ensures { self.new.places ≡ slice_set self.old.places (number_of name) place }
     {
         self.places[name as usize] = place;
