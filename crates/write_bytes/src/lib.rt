@@ -43,7 +43,7 @@ impl<'a> Output<'a> {
     {
         let at = self.at;
         if at < self.buffer.len() && bytes.len() <= self.buffer.len() - at {
-            self.buffer[at..at + bytes.len()].copy_from_slice(bytes);
+            copy(&mut self.buffer[at..at + bytes.len()], bytes);
             self.at = at + bytes.len();
         } else {
             self.put_front(bytes);
@@ -59,9 +59,19 @@ impl<'a> Output<'a> {
         let at = self.at;
         if at < self.buffer.len() {
             let room = self.buffer.len() - at;
-            self.buffer[at..].copy_from_slice(&bytes[..room]);
+            copy(&mut self.buffer[at..], &bytes[..room]);
         }
         self.at = at.saturating_add(bytes.len());
+    }
+}
+
+// Bytes over as many others. This is a loop, since `copy_from_slice` would call memmove of the C library.
+fn copy(to: &mut [u8], from: &[u8])
+    requires { length to.old ≡ length from.now }
+    ensures { to.new ≡ from.now }
+{
+    for i in 0..from.len() {
+        to[i] = from[i];
     }
 }
 
