@@ -1,18 +1,20 @@
 -- One text laid behind another.
 use mathlib.Core.Path.{◌≡◌, refl, ap, sym, ◌∙◌}
 use mathlib.Core.List.{List, [], ◌∷◌, ◌++◌, append_assoc, append_cancel_right}
-use mathlib.Core.Bool.{Bool, true, false, cond}
-use Prim.Native.Nat.{ℕ, suc, ◌+◌, ◌≤◌, min}
+use mathlib.Core.Bool.{Bool, true, false, cond, false≢true}
+use Prim.Native.Nat.{ℕ, zero, suc, ◌+◌, ◌<◌, ◌≤◌, min}
 use native.Mathlib.Omega.{arith}
 use borrow.Author.Tests.{leb-true, leb-false}
 use lib.Dec.{leb}
-use lib.ListN.{length, take, drop, set, length-set, length-append, take-append-drop}
+use lib.ListN.{length, take, drop, get_or, set, length-set, length-append, take-append-drop}
 use Rattle.std.proofs.Common.{length-take-le}
 use lib.Seq.{sets, length-sets, set_out}
+use Rattle.std.proofs.lemmas.List.{take_more}
 use Rattle.std.proofs.lemmas.Slice.{put_mid-paste}
 use Rattle.std.proofs.lemmas.List.Edits.{paste_all, sets-eq}
 use borrow.Rule.Slice.PartMut.{put_mid}
 use Rattle.json_grammar.proofs.Stores.{sets_append}
+use Rattle.write_bytes.specs.Plain.{is_plain}
 use Rattle.write_bytes.specs.Puts.{greatest_place, up_to, Puts, Lays}
 use Rattle.write_bytes.specs.declared.Output.{Output}
 
@@ -51,6 +53,18 @@ copied_front at l bytes {n} {copied} e h fits =
     ∙ sym (sets_beyond (sets l at (take n bytes)) (at + length (take n bytes)) (drop n bytes) whole)
     ∙ sym (sets_append (take n bytes) (drop n bytes) l at)
     ∙ ap (sets l at) (take-append-drop n bytes)
+
+-- Bytes stored one by one, and one more.
+pub stored_one : (l bytes : List ℕ) (at i : ℕ) → i < length bytes → set (sets l at (take i bytes)) (at + i) (get_or bytes i 0) ≡ sets l at (take (i + 1) bytes)
+stored_one l bytes at i h =
+    let b = get_or bytes i 0 in
+    let t = length-take-le i bytes (omega arith) in
+    sym (ap (sets l at) (take_more bytes i 0 h) ∙ sets_append (take i bytes) (b ∷ []) l at ∙ ap (λ (n : ℕ). set (sets l at (take i bytes)) (at + n) b) t)
+
+-- Where the first byte stands for itself and this one does not, this is another.
+pub behind_first : (bytes : List ℕ) (i : ℕ) {r : Bool} → r ≡ is_plain (get_or bytes i 0) → r ≡ false → is_plain (get_or bytes 0 0) ≡ true → 0 < i
+behind_first bytes zero e f p = absurd (false≢true (sym f ∙ e ∙ p))
+behind_first bytes (suc i) e f p = omega arith
 
 -- Bytes that all have room.
 pub puts_room : {before after : List ℕ} (from : ℕ) (bytes : List ℕ) → from + length bytes ≤ greatest_place → after ≡ sets before from bytes → (k : List ℕ) → Puts before from (bytes ++ k) k (from + length bytes) after

@@ -2,7 +2,9 @@
 // the place behind them is told all the same, so that a text can be measured without room.
 #![tactic(auto)]
 
-ghost use Rattle.std.specs.Prelude.{◌≡◌, List, ◌∷◌, ◌++◌, ℕ, ◌+◌, ◌<◌, ◌≤◌, length};
+ghost use Rattle.std.specs.Prelude.{◌≡◌, true, List, ◌∷◌, ◌++◌, ℕ, ◌+◌, ◌<◌, ◌≤◌, length, take, slice_index};
+ghost use Rattle.std.proofs.lemmas.List.Edits.{sets};
+ghost use Rattle.write_bytes.specs.Plain.{is_plain};
 ghost use Rattle.write_bytes.specs.Puts.{Puts, Lays};
 
 // A lent buffer and the place behind what stands in it, whether the buffer reaches that far or not.
@@ -35,6 +37,40 @@ impl<'a> Output<'a> {
             self.buffer[at] = b;
         }
         self.at = at.saturating_add(1);
+    }
+
+    // Two bytes at once: with room for both the place is read and kept once.
+    pub fn put_pair(&mut self, first: u8, second: u8)
+        ensures { (k : List ℕ) → Lays self.old (first ∷ second ∷ k) k self.new }
+    {
+        let at = self.at;
+        if at < self.buffer.len() && 1 < self.buffer.len() - at {
+            self.buffer[at] = first;
+            self.buffer[at + 1] = second;
+            self.at = at + 2;
+        } else {
+            self.put(first);
+            self.put(second);
+        }
+    }
+
+    // Puts the bytes in front that stand for themselves in a string, and tells how many they are: no more than there is
+    // room for, where there is room.
+    pub fn put_plain(&mut self, bytes: &[u8]) -> usize
+        ensures within { result ≤ length bytes.now }
+        ensures first { 0 < length bytes.now → is_plain (slice_index bytes.now 0) ≡ true → 0 < result }
+        ensures plain { (i : ℕ) → i < result → is_plain (slice_index bytes.now i) ≡ true }
+        ensures laid { (k : List ℕ) → Lays self.old (take result bytes.now ++ k) k self.new }
+    {
+        let at = self.at;
+        if at < self.buffer.len() {
+            let n = copy_plain(self.buffer, at, bytes);
+            self.at = at + n;
+            return n;
+        }
+        let n = plain_end(bytes);
+        self.at = at.saturating_add(n);
+        n
     }
 
     // Where the buffer has room for all of them, a processor stores many at once.
@@ -73,6 +109,45 @@ fn copy(to: &mut [u8], from: &[u8])
     for i in 0..from.len() {
         to[i] = from[i];
     }
+}
+
+// Whether a byte stands for itself in a string of JSON.
+pub fn is_plain(b: u8) -> bool
+    ensures { result ≡ is_plain b }
+{
+    (b' ' <= b) & (b != b'"') & (b != b'\\')
+}
+
+fn plain_end(bytes: &[u8]) -> usize
+    ensures within { result ≤ length bytes.now }
+    ensures first { 0 < length bytes.now → is_plain (slice_index bytes.now 0) ≡ true → 0 < result }
+    ensures plain { (i : ℕ) → i < result → is_plain (slice_index bytes.now i) ≡ true }
+{
+    for i in 0..bytes.len() {
+        if !is_plain(bytes[i]) {
+            return i;
+        }
+    }
+    bytes.len()
+}
+
+// Such bytes in front are looked for and copied in one pass: there are seldom many in a row.
+fn copy_plain(out: &mut [u8], at: usize, bytes: &[u8]) -> usize
+    requires { at < length out.old }
+    ensures within { (result ≤ length bytes.now) × (at + result ≤ length out.old) }
+    ensures first { 0 < length bytes.now → is_plain (slice_index bytes.now 0) ≡ true → 0 < result }
+    ensures plain { (i : ℕ) → i < result → is_plain (slice_index bytes.now i) ≡ true }
+    ensures stored { out.new ≡ sets out.old at (take result bytes.now) }
+{
+    let most = bytes.len().min(out.len() - at);
+    for i in 0..most {
+        let b = bytes[i];
+        if !is_plain(b) {
+            return i;
+        }
+        out[at + i] = b;
+    }
+    most
 }
 
 pub fn put(out: &mut [u8], at: usize, b: u8) -> usize

@@ -20,15 +20,13 @@ fn put_control(out: &mut Output<'_>, b: u8)
     ensures { (k : List ℕ) → Lays out.old (control b k) k out.new }
 {
     out.put_all(b"\\u00");
-    out.put(hex(b / 16));
-    out.put(hex(b % 16));
+    out.put_pair(hex(b / 16), hex(b % 16));
 }
 
 fn put_escape(out: &mut Output<'_>, letter: u8)
     ensures { (k : List ℕ) → Lays out.old (92 ∷ letter ∷ k) k out.new }
 {
-    out.put(b'\\');
-    out.put(letter);
+    out.put_pair(b'\\', letter);
 }
 
 // One byte of a string, with the escapes of document 01 and no others.
@@ -47,13 +45,21 @@ fn put_char(out: &mut Output<'_>, b: u8)
     }
 }
 
-// A string in quotes.
+// A string in quotes. Bytes that stand for themselves are put many at once, and the others one by one.
 pub fn put_string(out: &mut Output<'_>, bytes: &[u8])
     ensures { (k : List ℕ) → Lays out.old (spell (text_tree bytes.now) k) k out.new }
 {
     out.put(b'"');
-    for b in bytes {
-        put_char(out, *b);
+    let mut at = 0;
+    while at < bytes.len() {
+        let b = bytes[at];
+        if write_bytes::is_plain(b) {
+            let n = out.put_plain(&bytes[at..]);
+            at += n;
+        } else {
+            put_char(out, b);
+            at += 1;
+        }
     }
     out.put(b'"');
 }

@@ -3,4 +3,4 @@ use Rattle.write_strings.proofs.put_control.Goals as goal
 
 pub returns : goal.returns
 returns c k =
-    rw (← c.hex.ensures, ← c.hex-2.ensures) (lays_then (c.put_all.ensures _) (lays_then (c.put.ensures _) (c.put-2.ensures k)))
+    rw (← c.hex.ensures, ← c.hex-2.ensures) (lays_then (c.put_all.ensures _) (c.put_pair.ensures k))
