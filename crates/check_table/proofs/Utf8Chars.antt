@@ -20,7 +20,7 @@ use Rattle.json_laws.specs.Utf8 as U
 use Rattle.json_laws.proofs.Points.{point_utf8}
 use Rattle.document.specs.Utf8.{is_utf8}
 use Rattle.document.proofs.Utf8Tests.{utf8_test}
-use Rattle.document_meaning.proofs.Utf8Sequences.{tested_utf8}
+use Rattle.document.proofs.Utf8Sequences.{tested_utf8}
 
 same_bytes : (c : ℕ) → c ≤ 0x10FFFF → encode c ≡ utf8 c
 unfolding encode utf8 look

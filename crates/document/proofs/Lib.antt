@@ -3,6 +3,7 @@ pub mod Same
 pub mod Ranges
 pub mod Strings
 pub mod Utf8Tests
+pub mod Utf8Sequences
 -- Days and dates
 pub mod Days
 pub mod DaySets

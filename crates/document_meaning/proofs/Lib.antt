@@ -21,7 +21,6 @@ pub mod PlainMeans
 pub mod PlainHead
 pub mod PlainDepth
 pub mod Numerals
-pub mod Utf8Sequences
 pub mod QuotedChars
 pub mod PlainSpells
 pub mod PlainSpellable

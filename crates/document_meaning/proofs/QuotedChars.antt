@@ -23,7 +23,7 @@ use Rattle.document.specs.Utf8.{is_utf8}
 use Rattle.document.specs.Spell.{hex_digit, control, escaped, quoted}
 use Rattle.document.proofs.Sizes.{escaped_rows}
 use Rattle.document.proofs.Utf8Tests.{is_within}
-use Rattle.document_meaning.proofs.Utf8Sequences.{tested_utf8}
+use Rattle.document.proofs.Utf8Sequences.{tested_utf8}
 
 -- Control bytes: \u00 and two digits.
 abbrev hex_rows : Rows Bool

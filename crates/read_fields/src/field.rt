@@ -200,8 +200,8 @@ fn within_room(quote: usize, len: usize, terms: Terms, used: Used) -> Result<Wor
         return Err(Refusal(Reason::NoTextRoom, quote));
     }
     let used = Used {
-        records: used.records,
         text: used.text + len,
+        ..used
     };
     Ok(Worded { quote, len, used })
 }

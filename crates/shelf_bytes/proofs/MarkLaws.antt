@@ -2,7 +2,7 @@
 use mathlib.Core.Path.{◌≡◌, refl, ap, sym, ◌∙◌}
 use mathlib.Core.List.{List}
 use mathlib.Core.Bool.{Bool, true, false, not, ◌&&◌}
-use Prim.Native.Nat.{ℕ, zero, suc, ◌*◌, ◌/◌, ◌%◌, ◌^◌, ◌≤◌, ◌<◌}
+use Prim.Native.Nat.{ℕ, zero, suc, ◌+◌, ◌*◌, ◌/◌, ◌%◌, ◌^◌, ◌≤◌, ◌<◌}
 use native.Mathlib.Omega.{arith}
 use lib.Bits.{bit_and}
 use lib.Dec.{eqb, ltb}
@@ -11,7 +11,7 @@ use lib.Seq.{get_or-set_same, get_or-set_other}
 use borrow.Author.Tests.{eq-eqb, ne_eqb, eqb-true, eqb-false, lt-ltb, le-ltb}
 use Rattle.std.specs.Int.{bit_at}
 use Rattle.std.specs.Int.RustNames.{bit_or}
-use Rattle.std.proofs.lemmas.Nat.{pow_pos}
+use Rattle.std.proofs.lemmas.Nat.{pow_pos, or_disjoint, or_lt}
 use Rattle.std.proofs.Math.Pow.{pow-lt}
 use Rattle.std.proofs.lemmas.Nat.Bits.{bit_at-lt, bit_at_or, bit_at-pow_same, bit_at-pow_other, and_pow}
 use Rattle.json_grammar.proofs.Truth.{and_both, cond_true, cond_false}
@@ -73,8 +73,12 @@ marked_before s n h =
     go zero e l = absurd (h (tested s n ∙ ap (λ (x : ℕ). x * 2 ^ (n % 64)) e ∙ omega arith))
     go (suc b) e l = omega arith
 
+-- Two words without a bit in common add up to one.
+pub sum_fits : (w b : ℕ) → w < 2 ^ 64 → b < 2 ^ 64 → bit_and w b ≡ 0 → w + b < 2 ^ 64
+sum_fits w b l k h = rw (← or_disjoint w b h) (or_lt 64 w b l k)
+
 pub new_noted : (s : List ℕ) (n : ℕ) → n / 64 < length s → bit_and (word_of s n) (1 * 2 ^ (n % 64) % 18446744073709551616) ≡ 0
-    → Notes s n true (set s (n / 64) (bit_or (word_of s n) (1 * 2 ^ (n % 64) % 18446744073709551616)))
+    → Notes s n true (set s (n / 64) (word_of s n + 1 * 2 ^ (n % 64) % 18446744073709551616))
 unfolding marked mark
 new_noted s n l h =
     let power : 0 < 2 ^ (n % 64) = pow_pos (n % 64) in
@@ -83,6 +87,7 @@ new_noted s n l h =
     record {
       new = sym e;
       left =
-          ap (λ (x : ℕ). set s (n / 64) (bit_or (word_of s n) x)) (one_shifted (n % 64) (omega arith))
+          ap (set s (n / 64)) (sym (or_disjoint (word_of s n) (1 * 2 ^ (n % 64) % 18446744073709551616) h))
+          ∙ ap (λ (x : ℕ). set s (n / 64) (bit_or (word_of s n) x)) (one_shifted (n % 64) (omega arith))
           ∙ sym (cond_true (is_new s n) (mark s n) s e);
     }

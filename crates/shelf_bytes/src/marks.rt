@@ -1,7 +1,7 @@
 // Which numbers have stood, as bits: one look a record settles "a number .. twice".
 ghost use Rattle.shelf_bytes.specs.Marks.{Notes};
 
-// Notes a number, and tells whether it is new.
+// Notes a number, and tells whether it is new. A sum, and not an or: the bit is known not to be set.
 pub fn note(set: &mut [u64], n: u64) -> bool
     ensures { Notes set.old n result set.new }
 {
@@ -10,6 +10,6 @@ pub fn note(set: &mut [u64], n: u64) -> bool
     if set.len() <= word || set[word] & bit != 0 {
         return false;
     }
-    set[word] |= bit;
+    set[word] += bit;
     true
 }
