@@ -4,10 +4,11 @@ use mathlib.Core.List.{List, [], ◌∷◌}
 use mathlib.Core.Bool.{Bool, true, false, ◌&&◌}
 use Prim.Native.Nat.{ℕ, suc, ◌+◌, ◌≤◌, ◌<◌}
 use native.Mathlib.Omega.{arith}
+use native.Mathlib.Numerals.{add-one}
 use lib.Dec.{eqb}
 use lib.ListN.{length, drop, get_or, length-drop, drop_of_length-le}
 use lib.Seq.{get_or-drop, drop-cons}
-use borrow.Author.Tests.{ne_eqb}
+use borrow.Author.Tests.{ne_eqb, eq-eqb}
 use Rattle.std.proofs.Common.{Option, Some, None}
 use Rattle.std.proofs.lemmas.Bool.Decides.{Decides-eqb}
 use Rattle.std.proofs.lemmas.Slice.Eq.{starts_is}
@@ -61,6 +62,12 @@ size_behind a i l = size_none a i refl (λ b. let h = b.long in omega (arith, le
 pub all_zeros : (a : List ℕ) → list_all (λ (b : ℕ). eqb b 0) a ≡ is_zeros a
 all_zeros [] = refl
 all_zeros (b ∷ a) = ap (λ (z : Bool). eqb b 0 && z) (all_zeros a)
+
+pub zeros_step : (a : List ℕ) (i : ℕ) → i < length a → get_or a i 0 ≡ 0 → is_zeros (drop i a) ≡ is_zeros (drop (i + 1) a)
+zeros_step a i l e =
+    ap is_zeros (drop-cons a i 0 l)
+    ∙ ap (λ (b : Bool). b && is_zeros (drop (suc i) a)) (eq-eqb (get_or a i 0) 0 e)
+    ∙ ap (λ (n : ℕ). is_zeros (drop n a)) (sym (add-one i))
 
 pub zeros_not : (a : List ℕ) (i : ℕ) → i < length a → (get_or a i 0 ≡ 0 → ⊥) → is_zeros (drop i a) ≡ false
 zeros_not a i l d =

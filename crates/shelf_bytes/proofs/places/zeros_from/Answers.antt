@@ -1,19 +1,20 @@
--- The bytes of a slice, each tested.
-use Rattle.shelf_bytes.proofs.places.zeros_from.Goals as goal
+use mathlib.Core.Path.{refl, sym, ◌∙◌}
 use native.Mathlib.Omega.{arith}
-use Rattle.std.proofs.Common.{rules, ◌∙◌, ap}
-use Rattle.std.proofs.lemmas.Slice.{between_to_end}
-use Rattle.std.specs.List.{list_all}
-use borrow.Author.Tests.{tests}
-use lib.Dec.{eqb}
-use lib.ListN.{drop}
-use Rattle.std.proofs.lemmas.Iterator.{YieldsList-from_slice}
-use Rattle.std.proofs.lemmas.Iterator.Search.{all_from_yields_List}
-use Rattle.shelf_bytes.proofs.HeadLaws.{all_zeros}
-use Prim.Native.Nat.{ℕ}
+use Rattle.shelf_bytes.proofs.HeadLaws.{zeros_not, zeros_step, zeros_end}
+use Rattle.shelf_bytes.proofs.places.zeros_from.Goals as goal
 
-pub returns-else-area-from : goal.returns-else-area-from
-returns-else-area-from c =
-    all_from_yields_List (λ (b : ℕ). eqb b 0) _ _ _ c.all.ensures.ran (YieldsList-from_slice _ c.iter.ensures.rest) (λ x b q k. search (rules, tests))
-    ∙ ap (list_all (λ (b : ℕ). eqb b 0)) (between_to_end c.args.area.now c.args.from _ (omega arith))
-    ∙ all_zeros (drop c.args.from c.args.area.now)
+pub loop-at-init : goal.loop-at-init
+loop-at-init c =
+    refl
+
+pub returns-then-area-at-ne0 : goal.returns-then-area-at-ne0
+returns-then-area-at-ne0 c =
+    sym (c.loop-at.invariant ∙ zeros_not c.args.area.now c.loop-at.at (omega arith) c.if-area-at-ne0.true)
+
+pub loop-at-preserved : goal.loop-at-preserved
+loop-at-preserved c =
+    c.loop-at.invariant ∙ zeros_step c.args.area.now c.loop-at.at (omega arith) c.if-area-at-ne0.false
+
+pub returns : goal.returns
+returns c =
+    sym (c.loop-at.invariant ∙ zeros_end c.args.area.now c.loop-at.at (omega arith))
