@@ -116,7 +116,8 @@ impl<'a> Iterator for Pieces<'a> {
             }
         }
         let next = crate::stepped_bytes(text, self.spot)?;
-        *self = Pieces::from_spot(text, next.spot);
+        self.spot = next.spot;
+        self.end = next.spot.at;
         Some(Piece::Decoded(next.out))
     }
 }

@@ -28,13 +28,17 @@ pub fn decoded_length(text: &[u8], quote: usize) -> usize
     length_of(Pieces::of(text, quote))
 }
 
-// Lays some bytes into the buffer from `to` on, one by one: the place behind them.
+// Lays some bytes into the buffer from `to` on: the place behind them. Most escapes stand for one, which needs no loop.
 #[inline(always)]
 fn put(bytes: &[u8], buffer: &mut [u8], to: usize) -> usize
     requires { to + length bytes.now ≤ length buffer.old }
     ensures value { result ≡ to + length bytes.now }
     ensures buffer_after { buffer.new ≡ sets buffer.old to bytes.now }
 {
+    if let [b] = bytes {
+        buffer[to] = *b;
+        return to + 1;
+    }
     for i in 0..bytes.len() {
         buffer[to + i] = bytes[i];
     }
