@@ -44,7 +44,9 @@ impl<'a> Output<'a> {
         ensures { (k : List ℕ) → Lays self.old (first ∷ second ∷ k) k self.new }
     {
         let at = self.at;
-        if at < self.buffer.len() && 1 < self.buffer.len() - at {
+        if self.buffer.len() <= at {
+            self.at = at.saturating_add(2);
+        } else if 1 < self.buffer.len() - at {
             self.buffer[at] = first;
             self.buffer[at + 1] = second;
             self.at = at + 2;
