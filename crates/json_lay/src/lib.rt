@@ -28,21 +28,19 @@ pub fn decoded_length(text: &[u8], quote: usize) -> usize
     length_of(Pieces::of(text, quote))
 }
 
-// Lays some bytes into the buffer from `to` on: the place behind them. Most escapes stand for one, which needs no loop.
+// Lays some bytes into the buffer from `to` on. Most escapes stand for one, which needs no loop.
 #[inline(always)]
-fn put(bytes: &[u8], buffer: &mut [u8], to: usize) -> usize
+fn put(bytes: &[u8], buffer: &mut [u8], to: usize)
     requires { to + length bytes.now ≤ length buffer.old }
-    ensures value { result ≡ to + length bytes.now }
-    ensures buffer_after { buffer.new ≡ sets buffer.old to bytes.now }
+    ensures { buffer.new ≡ sets buffer.old to bytes.now }
 {
     if let [b] = bytes {
         buffer[to] = *b;
-        return to + 1;
+        return;
     }
     for i in 0..bytes.len() {
         buffer[to + i] = bytes[i];
     }
-    to + bytes.len()
 }
 
 // Lays the bytes into the buffer from `to` on, which has room for them: the place behind them.
@@ -53,10 +51,17 @@ fn copy(pieces: Pieces<'_>, buffer: &mut [u8], to: usize) -> usize
 {
     let mut k = to;
     for piece in pieces {
-        k = match piece {
-            Piece::Spelled(run) => put(run, buffer, k),
-            Piece::Decoded(out) => put(out.as_slice(), buffer, k),
-        };
+        match piece {
+            Piece::Spelled(run) => {
+                put(run, buffer, k);
+                k += run.len();
+            }
+            Piece::Decoded(out) => {
+                let bytes = out.as_slice();
+                put(bytes, buffer, k);
+                k += bytes.len();
+            }
+        }
     }
     k
 }
