@@ -2,7 +2,7 @@
 -- Bytes whose head does so are an area where their words are those of any table.
 use Prim.Native.Nat.{ℕ}
 use mathlib.Core.Path.{◌≡◌, sym, ap, ap₂, ◌∙◌}
-use Rattle.std.specs.Prelude.{Some, None}
+use Rattle.std.specs.Prelude.{Ok, Err}
 use mathlib.Core.List.{List, [], ◌∷◌, ◌++◌}
 use mathlib.Core.Bool.{true}
 use lib.ListN.{length, take, drop, take-append-drop}
@@ -27,11 +27,11 @@ module _ (area : List ℕ) (b : AllBytes area) where
     area_numbers = ap numbers_in (sym (area_lies area a)) ∙ numbers_laid (table_in area) (in_fits area b)
 
     -- Bytes whose head does not lie as it is read are no area.
-    pub area_laid : HeadIs area None → ⊥
+    pub area_laid : (r : HeadPart) → HeadIs area (Err r) → ⊥
     unfolding table_in
-    area_laid h = h (sym (ap (take 26) area_numbers ∙ words_front (table_in area)))
+    area_laid r h = h.lies (rw (h.head, h.count, h.text) (sym (ap (take 26) area_numbers ∙ words_front (table_in area))))
 
-    pub area_by_words : (r : HeadPart) → HeadIs area (Some r) → ByWords (table_in area) r.head r.count r.text (words_in area)
+    pub area_by_words : (r : HeadPart) → HeadIs area (Ok r) → ByWords (table_in area) r.head r.count r.text (words_in area)
     unfolding table_in
     area_by_words r h =
         record {
@@ -42,7 +42,7 @@ module _ (area : List ℕ) (b : AllBytes area) where
           all = groups_length width record_in 64 (drop 26 (numbers_in area));
         }
 
-  pub laid_is_area : (r : HeadPart) → HeadIs area (Some r) → (t : Table) → Fitting t → length area ≡ area_bytes
+  pub laid_is_area : (r : HeadPart) → HeadIs area (Ok r) → (t : Table) → Fitting t → length area ≡ area_bytes
       → ByWords t r.head r.count r.text (words_in area) → is_area area ≡ true
   unfolding area_of
   laid_is_area r h t f e w =

@@ -6,14 +6,14 @@ use native.Mathlib.Omega.{arith}
 use native.Mathlib.Nat.{zero-add, suc-add, suc-mul, add_comm}
 use lib.ListN.{length, take, drop, get_or}
 use lib.Seq.{drop-drop, get_or-take, ext_get_or}
-use Rattle.std.specs.Prelude.{None}
 use Rattle.document.specs.Words.{words_at_most, head_words}
 use Rattle.document.specs.declared.table.Head.{Head}
 use Rattle.table_kinds.specs.Kinds.{groups}
 use Rattle.table_kinds.proofs.Fill.{groups_length, groups_at}
 use Rattle.c_numbers.specs.Eights.{number_in}
 use Rattle.c_area.specs.Area.{numbers_in, date_in, head_in}
-use Rattle.c_area_back.specs.Parts.{PartIs, HeadIs, words_in}
+use Rattle.c_area_back.specs.declared.HeadPart.{HeadPart}
+use Rattle.c_area_back.specs.Parts.{PartIs, OtherIs, words_in}
 
 abbrev pub numbers_from : ℕ → ℕ → List ℕ → List ℕ
 numbers_from at n area = groups 8 (number_in 8) n (drop at area)
@@ -50,11 +50,12 @@ module _ (area ns hs : List ℕ) (h : Head) (front : ns ≡ numbers_from 0 26 ar
   number : (i : ℕ) → i < 26 → get_or ns i 0 ≡ get_or (numbers_in area) i 0
   number i l = ap (λ (x : List ℕ). get_or x i 0) numbers ∙ get_or-take 26 (numbers_in area) i 0 l
 
-  pub part_is : hs ≡ ns → PartIs area (record { head = h; count = get_or ns 24 0; text = get_or ns 25 0 })
+  abbrev part : HeadPart
+  part = record { head = h; count = get_or ns 24 0; text = get_or ns 25 0 }
+
+  pub part_is : hs ≡ ns → PartIs area part
   part_is e = record { head = head; count = number 24 (omega arith); text = number 25 (omega arith); lies = sym laid ∙ e ∙ numbers }
 
-  pub no_part : (hs ≡ ns → ⊥) → HeadIs area None
-  no_part n l =
-      let count = number 24 (omega arith) in
-      let text = number 25 (omega arith) in
-      n (laid ∙ rw (head, count, text) l ∙ sym numbers)
+  pub other_is : (hs ≡ ns → ⊥) → OtherIs area part
+  other_is n =
+      record { head = head; count = number 24 (omega arith); text = number 25 (omega arith); lies = λ l. n (laid ∙ l ∙ sym numbers) }

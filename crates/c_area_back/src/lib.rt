@@ -91,16 +91,17 @@ fn head_in(numbers: &[u64; HEAD]) -> Head
     }
 }
 
-// None where the head's numbers are not those of the head and the counts that they are read as.
-pub fn head_part(area: &[u8]) -> Option<HeadPart>
+// What the head's numbers are read as: Err where they are not those of it.
+pub fn head_part(area: &[u8]) -> Result<HeadPart, HeadPart>
     ensures { HeadIs area.now result }
 {
     let numbers: [u64; HEAD] = numbers_from(area, 0);
     let head = head_in(&numbers);
     let count = numbers[24] as usize;
     let text = numbers[25] as usize;
+    let part = HeadPart { head, count, text };
     if c_area::head_numbers(head, count, text) != numbers {
-        return None;
+        return Err(part);
     }
-    Some(HeadPart { head, count, text })
+    Ok(part)
 }

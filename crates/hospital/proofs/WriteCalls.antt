@@ -4,7 +4,7 @@ use mathlib.Core.Path.{◌≡◌, refl, sym, ap, ◌∙◌}
 use mathlib.Core.List.{List, [], ◌∷◌}
 use mathlib.Core.Bool.{Bool, true, false, false≢true}
 use lib.ListN.{length, get_or}
-use Rattle.std.specs.Prelude.{Result, Some, None}
+use Rattle.std.specs.Prelude.{Result, Ok, Err}
 use borrow.Author.Tests.{eq-eqb, ne_eqb}
 use Rattle.json_grammar.proofs.Truth.{never_true}
 use Rattle.document.specs.Valid.{is_use}
@@ -55,12 +55,12 @@ module _ (purpose : ℕ) (area strings out : List ℕ) where
       unfolding called_write
       sized a = rw (eq-eqb _ _ h, u, a)
 
-      pub no_table : ((i : ℕ) → get_or area i 0 < 256) → HeadIs area None → called ≡ refuses 18 0
-      no_table known p = unwritten_call (sym (never_true (is_area area) (λ a. area_laid area (all_bytes_lem area known) a p)))
+      pub no_table : ((i : ℕ) → get_or area i 0 < 256) → (part : HeadPart) → HeadIs area (Err part) → called ≡ refuses 18 0
+      no_table known part p = unwritten_call (sym (never_true (is_area area) (λ a. area_laid area (all_bytes_lem area known) a part p)))
 
 -- The head's part of the area decides, and then the words of its records.
 module _ (purpose : ℕ) (area strings out : List ℕ) (h : length area ≡ area_bytes) (u : is_use purpose ≡ true) (known : (i : ℕ) → get_or area i 0 < 256)
-    (part : HeadPart) (p : HeadIs area (Some part)) {ws out' : List ℕ} {r : Result ℕ Refusal} (e : ws ≡ words_in area)
+    (part : HeadPart) (p : HeadIs area (Ok part)) {ws out' : List ℕ} {r : Result ℕ Refusal} (e : ws ≡ words_in area)
     (f : WritesWords purpose part.head part.count part.text ws strings out r out') where
   bytes : AllBytes area
   bytes = all_bytes_lem area known

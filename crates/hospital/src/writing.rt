@@ -22,7 +22,7 @@ pub(crate) fn write_from(
     if !is_use(purpose) {
         return Err(Refusal(Reason::WrongUse, 0));
     }
-    let Some(part) = c_area_back::head_part(table) else {
+    let Ok(part) = c_area_back::head_part(table) else {
         return Err(Refusal(Reason::NotReadable, 0));
     };
     let words = c_area_back::words_in(table);

@@ -19,12 +19,12 @@ returns-then-not-is_use c =
 pub returns-in_default : goal.returns-in_default
 returns-in_default c =
     let bytes : (i : ℕ) → get_or c.args.table.now i 0 < 256 = λ i. omega (arith, c.type_inv.table i) in
-    rw (no_table _ _ _ _ c.in_ok-sized.ensures.right (sym c.is_use.ensures ∙ c.if-not-is_use.false) bytes c.in_default.ensures)
+    rw (no_table _ _ _ _ c.in_ok-sized.ensures.right (sym c.is_use.ensures ∙ c.if-not-is_use.false) bytes _ c.in_default.ensures)
     (record { answer = refl; left = refl })
 
 pub returns : goal.returns
 returns c =
     let bytes : (i : ℕ) → get_or c.args.table.now i 0 < 256 = λ i. omega (arith, c.type_inv.table i) in
     let w = answered _ _ _ _ c.in_ok-sized.ensures.right (sym c.is_use.ensures ∙ c.if-not-is_use.false) bytes
-    c.in-Some.part c.in-Some.ensures c.words_in-words.ensures c.write_words.ensures in
+    c.in-Ok.part c.in-Ok.ensures c.words_in-words.ensures c.write_words.ensures in
     record { answer = w.0; left = w.1 }
