@@ -1,8 +1,9 @@
 -- Document 01, "The hospital side calls reading and writing from a C program": the number that a call returns, and the place that it tells.
-use Rattle.std.specs.Prelude.{ℕ, Result}
+use Rattle.std.specs.Prelude.{ℕ, Result, Ok, Err}
 use Rattle.document.specs.Values.{Values, accepted, ends, blanks_only, number, next_values, length_values, refusal_values}
 use Rattle.document.specs.declared.refusal.Refusal.{Refusal}
 use Rattle.document.specs.declared.table.Next.{Next}
+use Rattle.document.specs.declared.table.Next.TheVariants as N
 use Rattle.c_answers.specs.declared.Told.{Told}
 
 -- The number of "only blanks remain".
@@ -27,3 +28,14 @@ told_next a = told (next_values a)
 
 abbrev pub told_writing : Result ℕ Refusal → Told
 told_writing w = told (length_values w)
+
+-- Of refusals of any type, by the number and the place that each has.
+module _ {R : Type 0} (n p : R → ℕ) where
+  abbrev pub next_values_by : Result Next R → Values
+  next_values_by (Ok (N.Taken e)) = ends e
+  next_values_by (Ok (N.Blank m)) = blanks_only m
+  next_values_by (Err r) = number (n r) (p r)
+
+  abbrev pub length_values_by : Result ℕ R → Values
+  length_values_by (Ok m) = ends m
+  length_values_by (Err r) = number (n r) (p r)

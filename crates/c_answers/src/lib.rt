@@ -1,8 +1,9 @@
 // What a call of the hospital side tells of an answer: the number that it returns, and the place (include/posology.h).
 #![tactic(auto)]
 
-ghost use Rattle.std.specs.Prelude.{◌≡◌};
-ghost use Rattle.c_answers.specs.Telling.{tells, told_next, told_refusal, told_writing};
+ghost use Rattle.std.specs.Prelude.{ℕ, ◌≡◌};
+ghost use Rattle.document.specs.Refusals.{number_of};
+ghost use Rattle.c_answers.specs.Telling.{tells, told, told_refusal, next_values_by, length_values_by};
 
 use document::refusal::Refusal;
 use document::table::Next;
@@ -31,21 +32,58 @@ pub fn told_refusal(why: Refusal) -> Told
     tells(u64::from(reason.number()), place)
 }
 
-pub fn told_next(answer: Result<Next, Refusal>) -> Told
-    ensures { result ≡ told_next answer }
+// A refusal that a call can tell.
+pub trait Refuses: Copy {
+    ghost number: { Self → ℕ };
+
+    ghost place: { Self → ℕ };
+
+    fn told(self) -> Told
+        ensures { result ≡ tells (number self) (place self) };
+}
+
+impl Refuses for Refusal {
+    ghost number = { λ why. number_of why.0 };
+
+    ghost place = { λ why. why.1 };
+
+    fn told(self) -> Told {
+        told_refusal(self)
+    }
+}
+
+// A refusal by its number, whichever that is.
+#[derive(Clone, Copy)]
+pub struct Numbered {
+    pub number: u8,
+    pub place: usize,
+}
+
+impl Refuses for Numbered {
+    ghost number = { λ why. why.number };
+
+    ghost place = { λ why. why.place };
+
+    fn told(self) -> Told {
+        tells(u64::from(self.number), self.place)
+    }
+}
+
+pub fn told_next<R: Refuses>(answer: Result<Next, R>) -> Told
+    ensures { result ≡ told (next_values_by R.number R.place answer) }
 {
     match answer {
         Ok(Next::Taken { end }) => tells(0, end),
         Ok(Next::Blank { length }) => tells(ONLY_BLANKS, length),
-        Err(why) => told_refusal(why),
+        Err(why) => why.told(),
     }
 }
 
-pub fn told_writing(written: Result<usize, Refusal>) -> Told
-    ensures { result ≡ told_writing written }
+pub fn told_writing<R: Refuses>(written: Result<usize, R>) -> Told
+    ensures { result ≡ told (length_values_by R.number R.place written) }
 {
     match written {
         Ok(length) => tells(0, length),
-        Err(refusal) => told_refusal(refusal),
+        Err(refusal) => refusal.told(),
     }
 }
