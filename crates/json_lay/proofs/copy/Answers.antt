@@ -1,3 +1,4 @@
+use native.Mathlib.Omega.{arith}
 use mathlib.Core.Path.{refl, sym}
 use Rattle.json_decode.specs.Bytes.{bytes_of}
 use Rattle.json_lay.proofs.Pieces.{put_on}
@@ -5,7 +6,7 @@ use Rattle.json_lay.proofs.copy.Goals as goal
 
 pub loop-piece-preserved-in-Spelled : goal.loop-piece-preserved-in-Spelled
 loop-piece-preserved-in-Spelled c =
-    put_on c.loop-piece.invariant (bytes_of c.in-Some.piece) _ c.in-Some.ensures.steps.0 (rw c.in-Spelled.is refl) (rw c.in-Spelled.is c.put.ensures)
+    put_on c.loop-piece.invariant (bytes_of c.in-Some.piece) _ c.in-Some.ensures.steps.0 (rw c.in-Spelled.is (omega arith)) (rw c.in-Spelled.is c.put.ensures)
 
 pub loop-piece-preserved : goal.loop-piece-preserved
 loop-piece-preserved c =
