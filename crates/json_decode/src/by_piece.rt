@@ -38,7 +38,7 @@ impl<'a> Piece<'a> {
     }
 }
 
-// What is left of a string from a spot on, with the end of the run that begins there, so that a copy need not look for it again.
+// What is left of a string from a spot on, with the end of the run that begins there, as far as it is looked for: a copy need not look for it again.
 #[derive(Clone, Copy)]
 pub struct Pieces<'a> {
     text: &'a [u8],
@@ -60,7 +60,7 @@ impl<'a> Pieces<'a> {
         Pieces {
             text,
             spot,
-            end: crate::run_end(text, spot),
+            end: crate::run_near(text, spot),
         }
     }
 
@@ -87,6 +87,15 @@ fn closes_at(text: &[u8], at: usize) -> bool
     at < text.len() && text[at] == b'"'
 }
 
+// The next end of a run that is longer than is looked for at once, as few are.
+#[cold]
+#[inline(never)]
+fn run_on(text: &[u8], s: Spot) -> usize
+    ensures { Run text.now s result }
+{
+    crate::run_near(text, s)
+}
+
 impl<'a> Iterator for Pieces<'a> {
     type Item = Piece<'a>;
 
@@ -111,8 +120,14 @@ impl<'a> Iterator for Pieces<'a> {
             }
             if let Some(escape) = escape::escape_at(text, start) {
                 self.spot.at = start + escape.width();
-                self.end = crate::plain_end(text, self.spot.at);
+                self.end = crate::run_near(text, self.spot);
                 return Some(Piece::Decoded(crate::escaped(escape)));
+            }
+            let end = run_on(text, self.spot);
+            if start < end {
+                self.spot.at = end;
+                self.end = end;
+                return Some(Piece::Spelled(&text[start..end]));
             }
         }
         let next = crate::stepped_bytes(text, self.spot)?;

@@ -152,9 +152,9 @@ fn step(text: &[u8], s: Spot) -> Option<NextBytes>
     }
 }
 
-// The first place from `at` on where no character stands that is spelled as it is.
+// As `plain_end`, but with letters outside ASCII it is looked for no further than `most` bytes on.
 #[inline]
-pub fn plain_end(text: &[u8], at: usize) -> usize
+fn plain_within(text: &[u8], at: usize, most: usize) -> usize
     ensures { Run text.now (spot_at at) result }
 {
     let mut i = at;
@@ -165,25 +165,54 @@ pub fn plain_end(text: &[u8], at: usize) -> usize
         } else if b < 0x80 {
             return i;
         } else {
-            match string::wide_char(text, i) {
-                Some(n) => i += n,
-                None => return i,
+            let Some(n) = string::wide_char(text, i) else {
+                return i;
+            };
+            i += n;
+            if most <= i - at {
+                return i;
             }
         }
     }
     i
 }
 
-// The place up to which the decoded bytes from a spot on are those of the text.
+// The first place from `at` on where no character stands that is spelled as it is.
+pub fn plain_end(text: &[u8], at: usize) -> usize
+    ensures { Run text.now (spot_at at) result }
+{
+    plain_within(text, at, text.len())
+}
+
+// As `run_end`, but no further than `plain_within`.
 #[tactic(auto, using(crate::proofs::Runs::run_none, crate::proofs::Runs::run_at))]
 #[inline(always)]
-pub fn run_end(text: &[u8], s: Spot) -> usize
+fn run_within(text: &[u8], s: Spot, most: usize) -> usize
     ensures { Run text.now s result }
 {
     match s.state {
-        InString::Plain => plain_end(text, s.at),
+        InString::Plain => plain_within(text, s.at, most),
         _ => s.at,
     }
+}
+
+// The place up to which the decoded bytes from a spot on are those of the text.
+pub fn run_end(text: &[u8], s: Spot) -> usize
+    ensures { Run text.now s result }
+{
+    run_within(text, s, text.len())
+}
+
+// How far a run is looked for at once. No string of a posology is longer (document 01), and whoever takes the first letters of a long name
+// does not pay for all of it.
+const RUN: usize = 2048;
+
+// As `run_end`, but no further than is looked for at once.
+#[inline(always)]
+fn run_near(text: &[u8], s: Spot) -> usize
+    ensures { Run text.now s result }
+{
+    run_within(text, s, RUN)
 }
 
 // The spot behind a run.

@@ -15,12 +15,15 @@ use json_grammar::string::{CharStep, InString, Lead, Letter};
 pub fn lead_of(b: u8) -> Lead
     ensures { result ≡ lead b }
 {
+    // most letters outside ASCII have two bytes
+    if let 0xC2..=0xDF = b {
+        return Lead::Two;
+    }
     match b {
         0x00..=0x1F => Lead::Control,
         b' ' | b'!' | b'#'..=b'[' | b']'..=0x7F => Lead::Ascii,
         b'"' => Lead::Quote,
         b'\\' => Lead::Backslash,
-        0xC2..=0xDF => Lead::Two,
         0xE0 => Lead::E0,
         0xE1..=0xEC | 0xEE | 0xEF => Lead::Three,
         0xED => Lead::Ed,

@@ -1,9 +1,9 @@
--- A run, the closing quote, an escape or what is decoded byte by byte.
+-- A run, the closing quote, an escape, a run that goes on, or what is decoded byte by byte.
 use Prim.Native.Nat.{ℕ, ◌+◌}
 use mathlib.Core.Path.{ap, ◌∙◌}
 use native.Mathlib.Omega.{arith}
 use lib.ListN.{length, length-append}
-use Rattle.json_decode.proofs.Runs.{left_any, run_at, run_piece, escape_piece}
+use Rattle.json_decode.proofs.Runs.{left_any, run_piece, escape_piece}
 use Rattle.json_decode.proofs.by_piece.PiecesIterator.next.Goals as goal
 
 pub returns-then-start-self-clause-steps : goal.returns-then-start-self-clause-steps
@@ -14,10 +14,9 @@ pub returns-then-closes_at-clause-steps : goal.returns-then-closes_at-clause-ste
 returns-then-closes_at-clause-steps c =
     let e = left_any c.args.self.now.text.now c.args.self.now.spot c.in-Plain.is ∙ c.closes_at.ensures c.if-closes_at.true in (e, e)
 
-pub invariant_of-self-in-Some : goal.invariant_of-self-in-Some
-invariant_of-self-in-Some c =
-    let s = c.args.self.now.spot in
-    record { run = run_at (record { at = s.at + c.width.result; state = s.state; v = s.v }) c.in-Plain.is c.plain_end-self.ensures }
+pub returns-then-start-end-clause-steps : goal.returns-then-start-end-clause-steps
+returns-then-start-end-clause-steps c =
+    run_piece c.run_on-end.ensures c.if-start-end.true
 
 pub returns-in-Some-clause-steps : goal.returns-in-Some-clause-steps
 returns-in-Some-clause-steps c =

@@ -2,7 +2,7 @@
 use Prim.Native.Nat.{◌-◌}
 use lib.ListN.{length}
 use Rattle.json_decode.specs.Characters.{spot_at, Run}
-use Rattle.json_decode.proofs.plain_end.Given as goal
+use Rattle.json_decode.proofs.plain_within.Given as goal
 
 abbrev pub invariant-loop-i : goal.invariant-loop-i
 invariant-loop-i l = Run l.text (spot_at l.at) l.i

@@ -2,7 +2,7 @@ use mathlib.Core.Path.{sym, ◌∙◌}
 use native.Mathlib.Omega.{arith}
 use Rattle.json_decode.specs.Characters.{spot_at}
 use Rattle.json_decode.proofs.Runs.{run_none, run_ascii, run_char}
-use Rattle.json_decode.proofs.plain_end.Goals as goal
+use Rattle.json_decode.proofs.plain_within.Goals as goal
 
 pub loop-i-init : goal.loop-i-init
 loop-i-init c =
@@ -12,13 +12,9 @@ pub loop-i-preserved-then-is_ascii : goal.loop-i-preserved-then-is_ascii
 loop-i-preserved-then-is_ascii c =
     run_ascii c.loop-i.invariant c.loop-i-test.true (sym c.is_ascii.ensures ∙ c.if-is_ascii.true)
 
-pub overflow_add-i-in-Some : goal.overflow_add-i-in-Some
-overflow_add-i-in-Some c =
-    omega (arith, c.in-Some.ensures.passes.inside)
-
-pub loop-i-smaller : goal.loop-i-smaller
-loop-i-smaller c =
-    omega (arith, c.in-Some.ensures.passes.inside, c.in-Some.ensures.passes.forward)
+pub returns-then-most-i : goal.returns-then-most-i
+returns-then-most-i c =
+    run_char c.loop-i.invariant c.in-Some.ensures
 
 pub loop-i-preserved : goal.loop-i-preserved
 loop-i-preserved c =
